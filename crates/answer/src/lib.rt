@@ -1,0 +1,49 @@
+// The numbered results of the bench (01, "Numbered results").
+
+// Done.
+pub const DONE: u32 = 0;
+
+// Window not allowed.
+pub const WINDOW_NOT_ALLOWED: u32 = 1;
+
+// Register not modelled.
+pub const REGISTER_NOT_MODELLED: u32 = 2;
+
+// That engine is not running.
+pub const NOT_RUNNING: u32 = 3;
+
+// Frame under 64 or over 1,518 bytes.
+pub const FRAME_LENGTH: u32 = 4;
+
+// Frame check sequence wrong.
+pub const FRAME_CHECK: u32 = 5;
+
+// Address not for this station.
+pub const ADDRESS: u32 = 6;
+
+// Chain fault.
+pub const CHAIN_FAULT: u32 = 7;
+
+// Descriptor not granted.
+pub const NOT_GRANTED: u32 = 8;
+
+// Output shorter than 1,518 bytes.
+pub const OUTPUT_SHORT: u32 = 9;
+
+// Step allowance over 4,096.
+pub const ALLOWANCE: u32 = 10;
+
+// Lent memory not of the window's length.
+pub const NOT_LENT: u32 = 11;
+
+// Send length under 14 or over 1,514.
+pub const SEND_LENGTH: u32 = 12;
+
+// Descriptor not at a multiple of 4 or not all in the window, or, for reading only, no frame to show.
+pub const NO_DESCRIPTOR: u32 = 13;
+
+// Descriptor already granted.
+pub const ALREADY_GRANTED: u32 = 14;
+
+// Next-descriptor register written while its engine runs.
+pub const ENGINE_RUNS: u32 = 15;
