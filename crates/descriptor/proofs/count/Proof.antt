@@ -1,0 +1,13 @@
+use borrow.Author.Needs.{needs}
+use Rattle.descriptor.specs.Descriptor.{count}
+use Rattle.descriptor.proofs.count.Statement.{statement}
+use Rattle.descriptor.proofs.count.Tie as tie
+
+pub count-spec : {M : Type 1} → statement M
+unfolding count
+count-spec =
+    tie.close
+    (tie.spec
+    (λ c κs. search needs)
+    (λ c κs. search needs)
+    (λ c. cc))

@@ -1,0 +1,12 @@
+use borrow.Author.Needs.{needs}
+use Rattle.descriptor.specs.Window.{placeOf}
+use Rattle.descriptor.proofs.place_of.Statement.{statement}
+use Rattle.descriptor.proofs.place_of.Tie as tie
+
+pub place-of-spec : {M : Type 1} → statement M
+unfolding placeOf
+place-of-spec =
+    tie.close
+    (tie.spec
+    (λ c. search needs)
+    (λ c. search needs))

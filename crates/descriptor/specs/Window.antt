@@ -1,0 +1,36 @@
+-- 01, "Window and descriptor": the window and the places in it. Assumes nothing.
+use Prim.Native.Nat.{ℕ, _+_, _-_, _%_, _^_}
+use mathlib.Core.Bool.{Bool, _&&_, _||_}
+use mathlib.Core.List.{List}
+use lib.Dec.{eqb, leb}
+use lib.ListN.{length}
+
+-- "The window is lent memory of 64 to 65,536 bytes, a multiple of 4, seen by the device from a base address that is a
+-- multiple of 4. Base plus length is at most 2^32."
+unfoldable pub windowAllowed : ℕ → ℕ → Bool
+windowAllowed base window =
+    leb 64 window && leb window 65536 && eqb (window % 4) 0 && eqb (base % 4) 0 && leb (base + window) (2 ^ 32)
+
+-- row 11 speaks of "lent memory not of the window's length"
+unfoldable pub lent : ℕ → List ℕ → Bool
+lent window m = eqb (length m) window
+
+-- where an address lies in the lent memory
+abbrev pub offset : ℕ → ℕ → ℕ
+offset base address = address - base
+
+-- the n bytes from an address on lie in the window
+unfoldable pub inWindow : ℕ → ℕ → ℕ → ℕ → Bool
+inWindow base window address n = leb base address && leb (address + n) (base + window)
+
+-- the n bytes from a on and the k bytes from b on share no byte; neither region is empty
+unfoldable pub apart : ℕ → ℕ → ℕ → ℕ → Bool
+apart a n b k = leb (a + n) b || leb (b + k) a
+
+-- an address with clear low bits: a multiple of 4
+unfoldable pub aligned : ℕ → Bool
+aligned address = eqb (address % 4) 0
+
+-- "Addresses are taken with the low two bits cleared": the place that a word leads to
+unfoldable pub placeOf : ℕ → ℕ
+placeOf w = w - w % 4

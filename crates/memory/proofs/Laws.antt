@@ -1,0 +1,50 @@
+-- What the functions of this crate leave, as their definitions say it. Assumes nothing.
+use mathlib.Core.Path.{_≡_, refl, sym, _∙_}
+use mathlib.Core.List.{List, [], _∷_}
+use Prim.Native.Nat.{ℕ, suc, _+_, _/_, _%_, _-_, _≤_, _<_}
+use native.Mathlib.Nat.{add-suc}
+use native.Mathlib.Numerals.{add-one}
+use native.Mathlib.Omega.{arith}
+use lib.ListN.{length, getD, take, drop, set, length-drop, drop-of-length-le, List·getD-eq-default}
+use lib.Seq.{sets, drop-cons, set-out, take-all, take-nil}
+use Rattle.memory.specs.Memory.{word, wordBytes, store, storeWord}
+
+-- a turn of the loop that stores s from an offset on
+pub sets-turn : (m s : List ℕ) (at i : ℕ) → i < length s → sets (set m (at + i) (getD s i 0)) (at + (i + 1)) (drop (i + 1) s) ≡ sets m (at + i) (drop i s)
+sets-turn m s at i h = simp (add-one, add-suc, drop-cons s i 0 h)
+
+-- a store that begins past the end
+sets-out : (s m : List ℕ) (at : ℕ) → length m ≤ at → sets m at s ≡ m
+sets-out [] m at h = refl
+sets-out (x ∷ s) m at h = rw (set-out m at x h) (sets-out s m (suc at) (omega arith))
+
+-- a word that begins past the end
+pub word-out : (m : List ℕ) (at : ℕ) → length m ≤ at → word m at ≡ 0
+unfolding word
+word-out m at h =
+    rw (
+      List·getD-eq-default m 0 {n = at} h,
+      List·getD-eq-default m 0 {n = at + 1} (omega arith),
+      List·getD-eq-default m 0 {n = at + 2} (omega arith),
+      List·getD-eq-default m 0 {n = at + 3} (omega arith),
+    )
+
+-- a word is stored byte by byte
+pub store-word-is : (m : List ℕ) (at v : ℕ) → set (set (set (set m at (v % 256)) (at + 1) (v / 256 % 256)) (at + 2) (v / 256 / 256 % 256)) (at + 3) (v / 256 / 256 / 256 % 256) ≡ storeWord m at v
+unfolding store wordBytes
+store-word-is m at v =
+    let e1 : at + 1 ≡ suc at = omega arith in
+    let e2 : at + 2 ≡ suc (suc at) = omega arith in
+    let e3 : at + 3 ≡ suc (suc (suc at)) = omega arith in
+    rw (e1, e2, e3)
+
+pub store-out : (m : List ℕ) (at : ℕ) (s : List ℕ) → length m ≤ at → m ≡ store m at s
+unfolding store
+store-out m at s h = sym (sets-out s m at h)
+
+-- a part that begins past the end, and one that runs past it
+pub part-none : (m : List ℕ) (at n : ℕ) → length m ≤ at → [] ≡ take n (drop at m)
+part-none m at n h = rw (drop-of-length-le m h, take-nil n)
+
+pub part-rest : (m : List ℕ) (at n : ℕ) → length m - at ≤ n → take (length m - at) (drop at m) ≡ take n (drop at m)
+part-rest m at n h = take-all (length m - at) (drop at m) (omega (arith, length-drop at m)) ∙ sym (take-all n (drop at m) (omega (arith, length-drop at m)))

@@ -1,0 +1,14 @@
+use mathlib.Core.Path.{sym}
+use lib.Seq.{set-out}
+use borrow.Author.Needs.{needs}
+use Rattle.memory.proofs.store_byte.Statement.{statement}
+use Rattle.memory.proofs.store_byte.Tie as tie
+
+pub store-byte-spec : {M : Type 1} → statement M
+store-byte-spec =
+    tie.close
+    (tie.spec
+    (λ c. search needs)
+    (λ c. search needs)
+    (λ c. search needs)
+    (λ c. sym (set-out _ _ _ (c .if1 .left))))

@@ -1,0 +1,20 @@
+use borrow.Author.Needs.{needs}
+use Rattle.reading.proofs.Laws.{reading-refused, reading-short, reading-is}
+use Rattle.reading.proofs.reading.Statement.{statement}
+use Rattle.reading.proofs.reading.Tie as tie
+
+pub reading-spec : {M : Type 1} → statement M
+reading-spec =
+    tie.close
+    (tie.spec
+    (λ c κs. search needs)
+    (λ c. search needs)
+    (λ c. search reading-refused)
+    (λ c κs. search needs)
+    (λ c. search needs)
+    (λ c. search needs)
+    (λ c. search reading-short)
+    (λ c κs. search needs)
+    (λ c κs. search needs)
+    (λ c κs. search needs)
+    (λ c. search reading-is))

@@ -1,0 +1,10 @@
+use borrow.Author.Needs.{needs}
+use Rattle.reading.proofs.returned.Statement.{statement}
+use Rattle.reading.proofs.returned.Tie as tie
+
+pub returned-spec : {M : Type 1} → statement M
+returned-spec =
+    tie.close
+    (tie.spec
+    (λ c κs. search needs)
+    (λ c. cc))
