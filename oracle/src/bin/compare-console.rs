@@ -1,0 +1,79 @@
+//! Compares a bench console program with the oracle on scripts made by hand and random ones.
+
+use oracle::compare::{self, Script};
+use oracle::random::Random;
+use oracle::scripts;
+use oracle::tally::Tally;
+use std::path::Path;
+use std::process::ExitCode;
+
+/// Console lines in all, and in one run of the program.
+const CALLS: usize = 400_000;
+const CALLS_A_RUN: usize = 4_000;
+/// Each number and each call's answer must be met this often in a whole comparison, in a shorter
+/// one by its share.
+const LEAST: usize = 100;
+
+fn main() -> ExitCode {
+    let words: Vec<String> = std::env::args().skip(1).collect();
+    let (path, calls, seed) = match arguments(&words) {
+        Some(found) => found,
+        None => {
+            eprintln!("usage: compare-console PATH-TO-BENCH [--calls N] [--seed S]");
+            return ExitCode::from(2);
+        }
+    };
+    let mut tally = Tally::default();
+    compare::answers::expect(&mut tally);
+    for script in batches(calls, seed) {
+        if let Some(found) = compare::difference(Path::new(path), &script, &mut tally) {
+            print!("{}", compare::report(Path::new(path), &script, &found));
+            return ExitCode::FAILURE;
+        }
+    }
+    print!("{tally}");
+    let least = (LEAST * calls / CALLS).clamp(1, LEAST);
+    let rare = tally.under(least);
+    if !rare.is_empty() {
+        println!(
+            "compare-console: met under {least} times: {}",
+            rare.join("; ")
+        );
+        return ExitCode::FAILURE;
+    }
+    println!("compare-console: no difference");
+    ExitCode::SUCCESS
+}
+
+fn arguments(words: &[String]) -> Option<(&str, usize, u64)> {
+    let (path, options) = words.split_first()?;
+    let (mut calls, mut seed) = (CALLS, 1);
+    for option in options.chunks(2) {
+        match option {
+            [name, value] if name == "--calls" => calls = value.parse().ok()?,
+            [name, value] if name == "--seed" => seed = value.parse().ok()?,
+            _ => return None,
+        }
+    }
+    Some((path, calls, seed))
+}
+
+/// The scripts made by hand, then random ones joined to long ones until there are enough lines.
+fn batches(calls: usize, seed: u64) -> impl Iterator<Item = Script> {
+    let mut random = Random::new(seed);
+    let mut made = 0;
+    let random_batches = std::iter::from_fn(move || {
+        if made >= calls {
+            return None;
+        }
+        let mut batch = Script::new();
+        while batch.len() < CALLS_A_RUN {
+            batch.extend(scripts::random_script(&mut random));
+        }
+        made += batch.len();
+        Some(batch)
+    });
+    scripts::hand_made::scripts()
+        .into_iter()
+        .chain(random_batches)
+}

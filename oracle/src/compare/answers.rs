@@ -1,0 +1,90 @@
+//! Counts the answers that a comparison meets, and names those it must.
+
+use crate::tally::Tally;
+use std::fmt;
+
+/// Calls whose answer is a number.
+const NUMBERED: [&str; 8] = [
+    "new", "read", "write", "grant", "frame", "send", "run", "show",
+];
+
+/// Counts an answer under its call and, if it is a number, under that.
+pub fn count(tally: &mut Tally, answer: &str) {
+    let mut words = answer.split(' ');
+    let call = words.next().unwrap_or_default();
+    let result = words.next().unwrap_or_default();
+    tally.met("calls");
+    if NUMBERED.contains(&call) {
+        tally.met(number_name(result));
+        tally.met(format!("{call} {result}"));
+    } else if ["ring", "line"].contains(&call) || result == "outside" {
+        tally.met(format!("{call} {result}"));
+    } else {
+        tally.met(call);
+    }
+}
+
+/// The tally's name of a numbered result, ordered as the numbers are.
+fn number_name(number: impl fmt::Display) -> String {
+    format!("number {number:>2}")
+}
+
+/// Answers that a whole comparison must have met, by call.
+const ANSWERS: [(&str, &[u32]); 8] = [
+    ("new", &[0, 1]),
+    ("read", &[0, 2]),
+    ("write", &[0, 2, 15]),
+    ("grant", &[0, 11, 13, 14]),
+    ("frame", &[0, 3, 4, 5, 6, 7, 8, 11]),
+    ("send", &[0, 3, 7, 8, 9, 11, 12]),
+    ("run", &[0, 3, 7, 8, 9, 10, 11, 12]),
+    ("show", &[0, 11, 13]),
+];
+
+/// Names every answer there is, so that one never met is seen.
+pub fn expect(tally: &mut Tally) {
+    for number in 0..16 {
+        tally.expect(number_name(number));
+    }
+    for (call, numbers) in ANSWERS {
+        for number in numbers {
+            tally.expect(format!("{call} {number}"));
+        }
+    }
+    for other in ["ring yes", "ring no", "line 0", "line 1", "error", "lend"] {
+        tally.expect(other);
+    }
+    for other in [
+        "poke",
+        "poke outside",
+        "peek",
+        "peek outside",
+        "check",
+        "state",
+    ] {
+        tally.expect(other);
+    }
+}
+
+#[cfg(test)]
+mod tests {
+    use super::*;
+
+    #[test]
+    fn answers_are_counted_by_call_and_number() {
+        let mut tally = Tally::default();
+        for answer in [
+            "frame 11",
+            "grant 11",
+            "peek outside",
+            "peek 00",
+            "ring yes",
+        ] {
+            count(&mut tally, answer);
+        }
+        for kind in ["frame 11", "grant 11", "peek", "peek outside", "ring yes"] {
+            assert!(tally.under(2).contains(&kind));
+        }
+        assert!(!tally.under(2).contains(&"number 11"));
+    }
+}

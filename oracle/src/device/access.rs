@@ -1,0 +1,49 @@
+//! Register accesses and the interrupt line.
+
+use super::engine::{RECEIVE, SEND};
+use super::registers::{Name, Registers};
+use super::Bench;
+use crate::numbers::{DONE, REGISTER_NOT_MODELLED, WHILE_RUNNING};
+
+impl Bench {
+    /// A register read: the number and the value.
+    pub fn read(&self, offset: u32) -> (u32, u32) {
+        match Registers::at(offset) {
+            Some(form) => (DONE, self.registers.get(form.name)),
+            None => (REGISTER_NOT_MODELLED, 0),
+        }
+    }
+
+    /// A register write.
+    pub fn write(&mut self, offset: u32, value: u32) -> u32 {
+        let Some(form) = Registers::at(offset) else {
+            return REGISTER_NOT_MODELLED;
+        };
+        let engines = [(&mut self.receiver, RECEIVE), (&mut self.sender, SEND)];
+        for (engine, direction) in engines {
+            if form.name == direction.next && engine.running {
+                return WHILE_RUNNING;
+            }
+            if form.name == direction.start {
+                engine.start_write(value, self.registers.get(direction.next));
+            }
+        }
+        self.registers.put(form, value);
+        DONE
+    }
+
+    /// Whether the interrupt line is high.
+    pub fn line(&self) -> bool {
+        let status = self.registers.get(Name::InterruptStatus);
+        status & self.registers.get(Name::InterruptEnable) != 0
+    }
+
+    /// What the address filter goes by: MAC control, address high, address low.
+    pub fn filter(&self) -> (u32, u32, u32) {
+        (
+            self.registers.get(Name::MacControl),
+            self.registers.get(Name::AddressHigh),
+            self.registers.get(Name::AddressLow),
+        )
+    }
+}

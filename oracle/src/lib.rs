@@ -1,0 +1,18 @@
+//! An independent reference for the bench model of the STR91xFA Ethernet controller.
+//!
+//! Written from the rules and the reference manual alone, by other methods than the model where
+//! there is a choice, so that an error shared by both is unlikely.
+
+pub mod address;
+pub mod check;
+pub mod compare;
+pub mod console;
+pub mod device;
+pub mod frames;
+pub mod hex;
+pub mod numbers;
+pub mod program;
+pub mod random;
+pub mod scripts;
+pub mod tally;
+pub mod verdict;

@@ -1,0 +1,38 @@
+//! Counts by name what a comparison has met, so that a kind never met is seen.
+
+use std::collections::BTreeMap;
+use std::fmt;
+
+#[derive(Default)]
+pub struct Tally {
+    counts: BTreeMap<String, usize>,
+}
+
+impl Tally {
+    /// A kind that must be met; it stands at 0 until it is.
+    pub fn expect(&mut self, kind: impl Into<String>) {
+        self.counts.entry(kind.into()).or_default();
+    }
+
+    pub fn met(&mut self, kind: impl Into<String>) {
+        *self.counts.entry(kind.into()).or_default() += 1;
+    }
+
+    /// The kinds met under `least` times.
+    pub fn under(&self, least: usize) -> Vec<&str> {
+        self.counts
+            .iter()
+            .filter(|(_, count)| **count < least)
+            .map(|(kind, _)| kind.as_str())
+            .collect()
+    }
+}
+
+impl fmt::Display for Tally {
+    fn fmt(&self, out: &mut fmt::Formatter) -> fmt::Result {
+        for (kind, count) in &self.counts {
+            writeln!(out, "{count:>9}  {kind}")?;
+        }
+        Ok(())
+    }
+}
