@@ -20,7 +20,7 @@ delivered base m place f = withPacketStatus base (store m (offset base (start ba
 
 -- what a frame meets: the engine runs or not, its place, and `first`, the first of 4, 5 and 6 that the frame brings, or 0.
 -- "Receive: 11, 3, 4, 5, 6, 7 for the descriptor, 8, 7 for the buffer." Row 8: "PACKET_LOST is set, nothing else". The next
--- word is read before the delivery: a descriptor is fetched whole, and its own words are never under its own frame
+-- word is the descriptor's own: a frame never lies over its own descriptor, so it is the same before and after the delivery
 unfoldable pub receiveAt : Enet → Bool → ℕ → ℕ → List ℕ → List ℕ → Outcome
 receiveAt d running place first m f =
     if not (lent (d .window) m) then leaves 11 d m else
