@@ -1,7 +1,7 @@
 -- Every public call on the bench, as one type, and what each gives, by its own definition. The claims about all calls
--- (crates refusals and history) are about this function. Making a new bench is no call on one. Assumes nothing.
+-- (crates refusals, history and marks) are about this function. Making a new bench is no call on one. Assumes nothing.
 use Prim.Native.Nat.{ℕ}
-use mathlib.Core.Bool.{Bool, true, false}
+use mathlib.Core.Bool.{Bool}
 use mathlib.Core.List.{List, []}
 use Rattle.rules.specs.Choice.{if_then_else_}
 use Rattle.ring.specs.Ring.{soundRing}

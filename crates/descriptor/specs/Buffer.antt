@@ -1,6 +1,6 @@
 -- 01, "Window and descriptor": the buffer of a descriptor. Assumes nothing.
 use Prim.Native.Nat.{ℕ}
-use mathlib.Core.Bool.{Bool, true, false, not, _||_}
+use mathlib.Core.Bool.{Bool, false, not, _||_}
 use lib.Dec.{eqb, ltb}
 use Rattle.rules.specs.Choice.{if_then_else_}
 use Rattle.descriptor.specs.Window.{inWindow, apart, aligned}

@@ -15,7 +15,7 @@ windowAllowed base window =
 unfoldable pub lent : ℕ → List ℕ → Bool
 lent window m = eqb (length m) window
 
--- where an address lies in the lent memory
+-- where an address lies in the lent memory; 0 for one below the base, which no call reads
 abbrev pub offset : ℕ → ℕ → ℕ
 offset base address = address - base
 

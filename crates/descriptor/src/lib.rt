@@ -1,5 +1,6 @@
 // The window, the descriptors in it and their buffers, on plain numbers and lent memory: what every call tests before it
-// acts. Each function is total: an address outside the window reads as 0.
+// acts. Each function is total: a byte past the end of the lent memory reads 0, and an address below the base counts as
+// the base.
 ghost use mathlib.Core.Path.{_≡_};
 ghost use Rattle.descriptor.specs.Window.{windowAllowed, lent, offset, inWindow, apart, aligned, placeOf};
 ghost use Rattle.descriptor.specs.Descriptor.{count, nextEnabled, start, next, packetStatus, granted, frameLength, withPacketStatus};

@@ -1,25 +1,20 @@
 -- The ways out of the calls over lent memory, from what their tests and their callees ensure. Assumes nothing.
-use mathlib.Core.Path.{_≡_, refl, sym, _∙_}
-use mathlib.Core.Bool.{Bool, true, false, not, _&&_}
+use mathlib.Core.Path.{_≡_, sym, _∙_}
+use mathlib.Core.Bool.{Bool, true, false, not}
 use mathlib.Core.List.{List}
 use Prim.Native.Nat.{ℕ, _≤_}
-use native.Mathlib.Omega.{arith}
-use borrow.Author.Tests.{leb-true, eq-eqb, ne-eqb}
-use lib.Dec.{leb}
+use borrow.Author.Tests.{eq-eqb, ne-eqb}
 use lib.ListN.{length}
-use Rattle.rules.specs.Choice.{if_then_else_}
-use Rattle.rules.proofs.Choices.{said-yes, said-no, and-no, and-last, and-yes, and-parts, by-test}
+use Rattle.rules.proofs.Choices.{said-yes, said-no}
 use Rattle.memory.specs.Memory.{store}
 use Rattle.descriptor.specs.Window.{lent, offset, inWindow, aligned}
 use Rattle.descriptor.specs.Descriptor.{count, nextEnabled, start, next, granted, withPacketStatus}
 use Rattle.descriptor.specs.Buffer.{bufferFault}
-use Rattle.fcs.specs.CheckSequence.{checkRight}
-use Rattle.frame.specs.Address.{accepts}
-use Rattle.frame.specs.Length.{lengthAllowed}
 use Rattle.frame.specs.Frame.{frameNumber}
+use Rattle.frame.proofs.Passed.{passed-short}
 use Rattle.enet.specs.declared.Enet.{Enet}
 use Rattle.enet.specs.declared.Answered.{Answered}
-use Rattle.enet.specs.Device.{Outcome, outcome, leaves, raised, rxStopped, rxAdvanced, packetLost}
+use Rattle.enet.specs.Device.{outcome, leaves, raised, rxStopped, rxAdvanced, packetLost}
 use Rattle.enet.specs.Grant.{grant, grantedStatus}
 use Rattle.enet.specs.Receive.{delivered, receiveAt, receive}
 
@@ -73,13 +68,7 @@ module _ (d : Enet) (m : List ℕ) (address : ℕ) (l : Bool) (el : l ≡ lent (
 
 -- a frame that brings none of 4, 5 and 6 is of an allowed length
 pub passed-length : (c h l : ℕ) (f : List ℕ) (n : ℕ) → n ≡ frameNumber c h l f → n ≡ 0 → length f ≤ 1518
-unfolding frameNumber lengthAllowed
-passed-length c h l f n e z = length-first (leb 64 (length f)) (leb (length f) 1518) _ n e z (λ t. leb-true _ _ t)
-  where
-    length-first : (a b : Bool) (x n : ℕ) → n ≡ (if not (a && b) then 4 else x) → n ≡ 0 → (b ≡ true → length f ≤ 1518) → length f ≤ 1518
-    length-first a true x n e z t = t refl
-    length-first true false x n e z t = absurd (omega arith)
-    length-first false false x n e z t = absurd (omega arith)
+passed-length c h l f n e z = passed-short c h l f (sym e ∙ z)
 
 pub delivered-is : (d : Enet) (m f : List ℕ) (r : Enet) (k : Bool) (p s a : ℕ) (m₁ m₂ : List ℕ)
     → k ≡ nextEnabled (d .base) m (d .rx .place) → p ≡ next (d .base) m (d .rx .place) → s ≡ start (d .base) m (d .rx .place)

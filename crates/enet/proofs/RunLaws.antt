@@ -1,6 +1,6 @@
 -- The turns of the step run: none left, a step that does not send, and the rest into the remaining output. Assumes nothing.
-use mathlib.Core.Path.{_≡_, refl, ap, _∙_}
-use mathlib.Core.Bool.{Bool, true, false, not}
+use mathlib.Core.Path.{_≡_, refl, ap}
+use mathlib.Core.Bool.{false, not}
 use mathlib.Core.List.{List, _++_, append-nil}
 use Prim.Native.Nat.{ℕ, zero, suc, _+_, _-_, _≤_, _<_}
 use native.Mathlib.Numerals.{add-one}
@@ -9,19 +9,18 @@ use borrow.Author.Tests.{ltb-false, lt-ltb, le-ltb, eq-eqb, ne-eqb}
 use lib.Dec.{eqb, ltb}
 use lib.ListN.{length, take, drop, length-append, length-drop, length-take, drop-of-length-le}
 use lib.Seq.{take-all, length-take-le}
-use Rattle.rules.specs.Choice.{if_then_else_}
 use Rattle.rules.proofs.Choices.{by-test, or-parts}
 use Rattle.memory.proofs.Stores.{length-store}
 use Rattle.descriptor.specs.Window.{lent, offset, inWindow}
 use Rattle.descriptor.specs.Descriptor.{count, start, granted}
 use Rattle.descriptor.specs.Buffer.{bufferFault}
-use Rattle.wire.specs.Wire.{sendLengthWrong, wire}
+use Rattle.wire.specs.Wire.{sendLengthWrong}
 use Rattle.wire.proofs.Laws.{length-wire}
 use Rattle.enet.specs.declared.Enet.{Enet}
 use Rattle.enet.specs.declared.Sent.{Sent}
 use Rattle.enet.specs.declared.Ran.{Ran}
 use Rattle.enet.specs.Send.{Sending, sending, wireAt, sendAt, send}
-use Rattle.enet.specs.Run.{Running, running, still, unsent, followed, sends, run}
+use Rattle.enet.specs.Run.{Running, running, still, unsent, sends, run}
 
 -- ---- bounds: what a send puts fits the output, and the output keeps its length
 

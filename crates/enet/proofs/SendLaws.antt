@@ -1,6 +1,6 @@
 -- The ways out of the single send, from what its tests and its callees ensure. Assumes nothing.
 use mathlib.Core.Path.{_≡_, sym, _∙_}
-use mathlib.Core.Bool.{Bool, true, false, not, _||_}
+use mathlib.Core.Bool.{Bool, true, false, not}
 use mathlib.Core.List.{List}
 use Prim.Native.Nat.{ℕ, _≤_, _<_}
 use native.Mathlib.Omega.{arith}
@@ -12,11 +12,11 @@ use Rattle.memory.specs.Memory.{store}
 use Rattle.descriptor.specs.Window.{lent, offset, inWindow}
 use Rattle.descriptor.specs.Descriptor.{count, nextEnabled, start, next, granted, withPacketStatus}
 use Rattle.descriptor.specs.Buffer.{bufferFault}
-use Rattle.wire.specs.Wire.{sendLengthWrong, wire, wireFits, wirePut, wireCount}
+use Rattle.wire.specs.Wire.{sendLengthWrong, wireFits, wirePut, wireCount}
 use Rattle.enet.specs.declared.Enet.{Enet}
 use Rattle.enet.specs.declared.Sent.{Sent}
 use Rattle.enet.specs.Device.{txStopped, txAdvanced}
-use Rattle.enet.specs.Send.{Sending, sending, refused, wireAt, sent, sendAt, send}
+use Rattle.enet.specs.Send.{sending, refused, wireAt, sent, sendAt, send}
 
 -- ---- the bytes put
 

@@ -1,6 +1,6 @@
 -- The device's state, changes of one part of it, and what a call gives. Assumes nothing.
 use Prim.Native.Nat.{ℕ}
-use mathlib.Core.Bool.{Bool, true, false}
+use mathlib.Core.Bool.{Bool, false}
 use mathlib.Core.List.{List}
 use lib.Bits.{bitOr}
 use Rattle.rules.specs.Choice.{if_then_else_}
@@ -79,7 +79,7 @@ withTx d e = record {
   tx = e;
 }
 
--- "stopping by itself changes neither [the start bits] nor the place"
+-- "stopping by itself changes neither them nor the place": the start bits and the place stay
 abbrev pub stopped : Engine → Engine
 stopped e = record { start = e .start; next = e .next; running = false; place = e .place }
 

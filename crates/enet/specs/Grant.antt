@@ -1,6 +1,6 @@
 -- 01, "Window and descriptor": granting a receive descriptor. Assumes nothing.
 use Prim.Native.Nat.{ℕ}
-use mathlib.Core.Bool.{Bool, true, false, not, _&&_}
+use mathlib.Core.Bool.{not, _&&_}
 use mathlib.Core.List.{List}
 use Rattle.rules.specs.Choice.{if_then_else_}
 use Rattle.descriptor.specs.Window.{lent, inWindow, aligned}

@@ -37,3 +37,6 @@ unfolding frameNumber
 passed control high low frame e =
     let t = none-met (lengthAllowed (length frame)) (checkRight frame) (accepts control high low frame) e in
     record { long = t .0; right = t .1 .0; ours = t .1 .1 }
+
+pub passed-short : (control high low : ℕ) (frame : List ℕ) → frameNumber control high low frame ≡ 0 → length frame ≤ 1518
+passed-short control high low frame e = allowed-bounds (length frame) (passed control high low frame e .long) .1

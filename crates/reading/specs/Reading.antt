@@ -1,7 +1,7 @@
 -- 01, "Reading a delivered frame". Each definition takes the window's base and length, the lent memory and a descriptor
 -- address. Assumes nothing.
 use Prim.Native.Nat.{ℕ, _-_}
-use mathlib.Core.Bool.{Bool, true, false, not, _&&_}
+use mathlib.Core.Bool.{Bool, not, _&&_}
 use mathlib.Core.List.{List, []}
 use lib.Dec.{eqb}
 use lib.ListN.{take, drop}

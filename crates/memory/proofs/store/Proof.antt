@@ -1,4 +1,4 @@
-use mathlib.Core.Path.{_≡_, refl, sym, _∙_}
+use mathlib.Core.Path.{_≡_, refl, _∙_}
 use Prim.Native.Nat.{_+_, _-_, _≤_}
 use native.Mathlib.Nat.{add-zero}
 use native.Mathlib.Omega.{arith}
@@ -10,9 +10,6 @@ use Rattle.memory.specs.Memory.{store}
 use Rattle.memory.proofs.Laws.{sets-turn, store-out}
 use Rattle.memory.proofs.store.Statement.{statement}
 use Rattle.memory.proofs.store.Tie as tie
-use Rattle.memory.proofs.store.Reads as reads
-use Rattle.memory.proofs.store.Lts as lts
-use Rattle.memory.proofs.store_byte.Reads as store-byte-reads
 
 abbrev Inv-loop : tie.InvT-loop
 Inv-loop m₀ at s i₀ m i = (i ≤ length s) × ((length m ≡ length m₀) × (sets m (at + i) (drop i s) ≡ sets m₀ at s))
@@ -20,35 +17,27 @@ Inv-loop m₀ at s i₀ m i = (i ≤ length s) × ((length m ≡ length m₀) ×
 abbrev μ-loop : tie.MeasureT-loop
 μ-loop m₀ at s i₀ m i = length s - i
 
--- src/lib.rt:59:9
 returns : tie.Need-returns Inv-loop μ-loop
 returns c = search store-out
 
--- src/lib.rt:62:5
 loop-holds : tie.Need-loop-holds Inv-loop μ-loop
 loop-holds c = (omega arith, (refl, rw add-zero))
 
--- src/lib.rt:63:21
 add-store-byte : tie.Need-add-store-byte Inv-loop μ-loop
 add-store-byte c = omega arith
 
--- src/lib.rt:63:29
 shared-slice-read-store-byte : tie.Need-shared-slice-read-store-byte Inv-loop μ-loop
 shared-slice-read-store-byte c = omega arith
 
--- src/lib.rt:63:9
 store-byte-requires : tie.Need-store-byte-requires Inv-loop μ-loop
 store-byte-requires c κs = search needs
 
--- src/lib.rt:64:9
 add-i : tie.Need-add-i Inv-loop μ-loop
 add-i c = omega arith
 
--- src/lib.rt:62:5
 loop-less : tie.Need-loop-less Inv-loop μ-loop
 loop-less c = omega arith
 
--- src/lib.rt:62:5
 loop-again : tie.Need-loop-again Inv-loop μ-loop
 loop-again c =
     let b = c .before .before .before .before .before .before in
@@ -56,11 +45,9 @@ loop-again c =
     let e = sets-turn (b .loop .m) (now (a .s)) (a .at) (b .loop .i) (omega arith) in
     (omega arith, (omega arith, rw (c .before .before .store-byte .ensures) (e ∙ b .loop .inv .1 .1)))
 
--- src/lib.rt:55:1
 same-length : tie.Need-same-length Inv-loop μ-loop
 same-length c = search needs
 
--- src/lib.rt:55:1
 returns-2 : tie.Need-returns-2 Inv-loop μ-loop
 unfolding store
 returns-2 c =

@@ -1,5 +1,3 @@
-use mathlib.Core.Path.{sym}
-use denote.Ref.{now}
 use Rattle.memory.specs.Memory.{word}
 use Rattle.memory.proofs.Laws.{word-out}
 use borrow.Author.Needs.{needs}
