@@ -34,7 +34,7 @@ pub const OUTPUT_SHORT: u32 = 9;
 pub const ALLOWANCE: u32 = 10;
 
 // Lent memory not of the window's length.
-pub const NOT_LENT: u32 = 11;
+pub const LENT_LENGTH: u32 = 11;
 
 // Send length under 14 or over 1,514.
 pub const SEND_LENGTH: u32 = 12;

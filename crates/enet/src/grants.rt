@@ -12,7 +12,7 @@ impl Enet {
     {
         if !descriptor::lent(self.window, memory) {
             return Answered {
-                number: answer::NOT_LENT,
+                number: answer::LENT_LENGTH,
                 device: self,
             };
         }

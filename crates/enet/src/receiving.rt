@@ -46,7 +46,7 @@ impl Enet {
         let rx = self.rx;
         if !descriptor::lent(self.window, memory) {
             return Answered {
-                number: answer::NOT_LENT,
+                number: answer::LENT_LENGTH,
                 device: self,
             };
         }

@@ -62,7 +62,7 @@ impl Enet {
         let tx = self.tx;
         if !descriptor::lent(self.window, memory) {
             return Sent {
-                number: answer::NOT_LENT,
+                number: answer::LENT_LENGTH,
                 count: 0,
                 device: self,
             };

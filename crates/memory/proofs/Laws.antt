@@ -1,5 +1,6 @@
 -- What the functions of this crate leave, as their definitions say it. Assumes nothing.
 use mathlib.Core.Path.{_≡_, refl, sym, _∙_}
+use mathlib.Core.Logic.{_⊎_, inl, inr}
 use mathlib.Core.List.{List, [], _∷_}
 use Prim.Native.Nat.{ℕ, suc, _+_, _/_, _%_, _-_, _≤_, _<_}
 use native.Mathlib.Nat.{add-suc}
@@ -17,6 +18,11 @@ sets-turn m s at i h = simp (add-one, add-suc, drop-cons s i 0 h)
 sets-out : (s m : List ℕ) (at : ℕ) → length m ≤ at → sets m at s ≡ m
 sets-out [] m at h = refl
 sets-out (x ∷ s) m at h = rw (set-out m at x h) (sets-out s m (suc at) (omega arith))
+
+-- the end of that loop: no byte is left, or none has room
+pub sets-end : (m s : List ℕ) (at i n k : ℕ) → length m ≡ k → n ≤ i → (n ≡ length s) ⊎ (n ≡ k - at) → sets m (at + i) (drop i s) ≡ m
+sets-end m s at i n k l h (inl e) = rw (drop-of-length-le s {i = i} (omega arith))
+sets-end m s at i n k l h (inr e) = sets-out (drop i s) m (at + i) (omega arith)
 
 -- a word that begins past the end
 pub word-out : (m : List ℕ) (at : ℕ) → length m ≤ at → word m at ≡ 0

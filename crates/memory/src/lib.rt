@@ -1,5 +1,7 @@
 // Little-endian 32-bit words and runs of bytes in lent memory. Every function is total: a byte past the end
 // reads 0, and a store past the end does nothing.
+ghost use Prim.Native.Nat.{_≤_};
+ghost use mathlib.Core.Logic.{_⊎_};
 ghost use mathlib.Core.Path.{_≡_};
 ghost use lib.ListN.{getD, set, take, drop};
 ghost use Rattle.memory.specs.Memory.{wordOf, word, storeWord, store};
@@ -55,16 +57,25 @@ pub fn store_word(m: &mut [u8], at: usize, v: u32)
     store_byte(m, at + 3, (v / 256 / 256 / 256 % 256) as u8);
 }
 
-// Stores the bytes of s from an offset on.
+// The lesser of two numbers.
+fn least(a: usize, b: usize) -> usize
+    ensures { λ r. ⌜ (r ≤ a) × ((r ≤ b) × ((r ≡ a) ⊎ (r ≡ b))) ⌝ }
+{
+    if a < b { a } else { b }
+}
+
+// Stores the bytes of s from an offset on. How many have room is settled before the loop: a test at each byte
+// would keep the compiler from moving several at once.
 pub fn store(m: &mut [u8], at: usize, s: &[u8])
     ensures { λ _. ⌜ now (m .exit) ≡ store (now (m .entry)) at (now (s .entry)) ⌝ }
 {
     if m.len() <= at {
         return;
     }
+    let n = least(s.len(), m.len() - at);
     let mut i = 0;
-    while i < s.len() {
-        store_byte(m, at + i, s[i]);
+    while i < n {
+        m[at + i] = s[i];
         i += 1;
     }
 }

@@ -62,7 +62,7 @@ pub fn reading_number(base: u32, window: u32, m: &[u8], d: u32) -> u32
     ensures { λ r. ⌜ r ≡ readingNumber base window (now (m .entry)) d ⌝ }
 {
     if !descriptor::lent(window, m) {
-        return answer::NOT_LENT;
+        return answer::LENT_LENGTH;
     }
     if !shown(base, window, m, d) {
         return answer::NO_DESCRIPTOR;

@@ -1,5 +1,4 @@
 use Rattle.rules.proofs.Choices.{choices}
-use borrow.Author.Needs.{needs}
 use Rattle.descriptor.specs.Buffer.{bytesFault}
 use Rattle.descriptor.proofs.bytes_fault.Statement.{statement}
 use Rattle.descriptor.proofs.bytes_fault.Tie as tie
@@ -10,8 +9,8 @@ bytes-fault-spec =
     tie.close
     (tie.spec
     (λ c. search choices depth 9)
-    (λ c κs. search needs)
+    (λ c κs. tt)
     (λ c. search choices depth 9)
-    (λ c κs. search needs)
+    (λ c κs. tt)
     (λ c. search choices depth 9)
     (λ c. search choices depth 9))

@@ -1,4 +1,3 @@
-use borrow.Author.Needs.{needs}
 use Rattle.descriptor.specs.Descriptor.{count}
 use Rattle.descriptor.proofs.count.Statement.{statement}
 use Rattle.descriptor.proofs.count.Tie as tie
@@ -8,6 +7,6 @@ unfolding count
 count-spec =
     tie.close
     (tie.spec
-    (λ c κs. search needs)
-    (λ c κs. search needs)
+    (λ c κs. tt)
+    (λ c κs. tt)
     (λ c. cc))

@@ -1,4 +1,3 @@
-use borrow.Author.Needs.{needs}
 use Rattle.descriptor.specs.Descriptor.{frameLength}
 use Rattle.descriptor.proofs.frame_length.Statement.{statement}
 use Rattle.descriptor.proofs.frame_length.Tie as tie
@@ -8,5 +7,5 @@ unfolding frameLength
 frame-length-spec =
     tie.close
     (tie.spec
-    (λ c κs. search needs)
+    (λ c κs. tt)
     (λ c. cc))

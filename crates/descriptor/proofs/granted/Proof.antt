@@ -1,4 +1,3 @@
-use borrow.Author.Needs.{needs}
 use Rattle.descriptor.specs.Descriptor.{granted}
 use Rattle.descriptor.proofs.granted.Statement.{statement}
 use Rattle.descriptor.proofs.granted.Tie as tie
@@ -8,5 +7,5 @@ unfolding granted
 granted-spec =
     tie.close
     (tie.spec
-    (λ c κs. search needs)
+    (λ c κs. tt)
     (λ c. cc))

@@ -1,4 +1,3 @@
-use borrow.Author.Needs.{needs}
 use Rattle.descriptor.specs.Descriptor.{nextEnabled}
 use Rattle.descriptor.proofs.next_enabled.Statement.{statement}
 use Rattle.descriptor.proofs.next_enabled.Tie as tie
@@ -8,6 +7,6 @@ unfolding nextEnabled
 next-enabled-spec =
     tie.close
     (tie.spec
-    (λ c κs. search needs)
-    (λ c κs. search needs)
+    (λ c κs. tt)
+    (λ c κs. tt)
     (λ c. cc))

@@ -1,4 +1,3 @@
-use borrow.Author.Needs.{needs}
 use Rattle.descriptor.proofs.start_aligned.Statement.{statement}
 use Rattle.descriptor.proofs.start_aligned.Tie as tie
 
@@ -6,6 +5,6 @@ pub start-aligned-spec : {M : Type 1} → statement M
 start-aligned-spec =
     tie.close
     (tie.spec
-    (λ c κs. search needs)
-    (λ c κs. search needs)
+    (λ c κs. tt)
+    (λ c κs. tt)
     (λ c. cc))

@@ -1,36 +1,42 @@
-use mathlib.Core.Path.{_≡_, refl, _∙_}
+use mathlib.Core.Path.{_≡_, refl, sym, _∙_}
 use Prim.Native.Nat.{_+_, _-_, _≤_}
 use native.Mathlib.Nat.{add-zero}
 use native.Mathlib.Omega.{arith}
 use borrow.Author.Needs.{needs}
-use lib.ListN.{length, drop, drop-of-length-le}
+use lib.ListN.{length, drop, length-set}
 use lib.Seq.{sets}
 use denote.Ref.{now}
 use Rattle.memory.specs.Memory.{store}
-use Rattle.memory.proofs.Laws.{sets-turn, store-out}
+use Rattle.memory.proofs.Laws.{sets-turn, sets-end, store-out}
 use Rattle.memory.proofs.store.Statement.{statement}
 use Rattle.memory.proofs.store.Tie as tie
 
 abbrev Inv-loop : tie.InvT-loop
-Inv-loop m₀ at s i₀ m i = (i ≤ length s) × ((length m ≡ length m₀) × (sets m (at + i) (drop i s) ≡ sets m₀ at s))
+Inv-loop m₀ at s n i₀ m i = (i ≤ n) × ((length m ≡ length m₀) × (sets m (at + i) (drop i s) ≡ sets m₀ at s))
 
 abbrev μ-loop : tie.MeasureT-loop
-μ-loop m₀ at s i₀ m i = length s - i
+μ-loop m₀ at s n i₀ m i = n - i
 
 returns : tie.Need-returns Inv-loop μ-loop
 returns c = search store-out
 
+sub-least : tie.Need-sub-least Inv-loop μ-loop
+sub-least c = omega arith
+
+least-requires : tie.Need-least-requires Inv-loop μ-loop
+least-requires c κs = search needs
+
 loop-holds : tie.Need-loop-holds Inv-loop μ-loop
 loop-holds c = (omega arith, (refl, rw add-zero))
 
-add-store-byte : tie.Need-add-store-byte Inv-loop μ-loop
-add-store-byte c = omega arith
+shared-slice-read-m : tie.Need-shared-slice-read-m Inv-loop μ-loop
+shared-slice-read-m c = omega arith
 
-shared-slice-read-store-byte : tie.Need-shared-slice-read-store-byte Inv-loop μ-loop
-shared-slice-read-store-byte c = omega arith
+add-m : tie.Need-add-m Inv-loop μ-loop
+add-m c = omega arith
 
-store-byte-requires : tie.Need-store-byte-requires Inv-loop μ-loop
-store-byte-requires c κs = search needs
+slice-write-m : tie.Need-slice-write-m Inv-loop μ-loop
+slice-write-m c = omega arith
 
 add-i : tie.Need-add-i Inv-loop μ-loop
 add-i c = omega arith
@@ -40,10 +46,10 @@ loop-less c = omega arith
 
 loop-again : tie.Need-loop-again Inv-loop μ-loop
 loop-again c =
-    let b = c .before .before .before .before .before .before in
-    let a = b .before .before .before .before .args in
-    let e = sets-turn (b .loop .m) (now (a .s)) (a .at) (b .loop .i) (omega arith) in
-    (omega arith, (omega arith, rw (c .before .before .store-byte .ensures) (e ∙ b .loop .inv .1 .1)))
+    let l = c .before .before .loop in
+    let a = c .before .before .before .before .before .before .before .args in
+    let e = sets-turn (l .m) (now (a .s)) (a .at) (l .i) (omega arith) in
+    (omega arith, (simp length-set (l .inv .1 .0), e ∙ l .inv .1 .1))
 
 same-length : tie.Need-same-length Inv-loop μ-loop
 same-length c = search needs
@@ -51,7 +57,10 @@ same-length c = search needs
 returns-2 : tie.Need-returns-2 Inv-loop μ-loop
 unfolding store
 returns-2 c =
-    rw (drop-of-length-le (now (c .before .before .before .before .before .args .s)) (c .loop-test .left)) at (c .before .loop .inv .1 .1)
+    let l = c .before .loop in
+    let a = c .before .before .before .before .before .before .args in
+    let n = c .before .before .least in
+    sym (sets-end (l .m) (now (a .s)) (a .at) (l .i) _ _ (l .inv .1 .0) (omega arith) (n .ensures .1 .1)) ∙ l .inv .1 .1
 
 pub store-spec : {M : Type 1} → statement M
 store-spec =
@@ -60,10 +69,12 @@ store-spec =
     Inv-loop
     μ-loop
     returns
+    sub-least
+    least-requires
     loop-holds
-    add-store-byte
-    shared-slice-read-store-byte
-    store-byte-requires
+    shared-slice-read-m
+    add-m
+    slice-write-m
     add-i
     loop-less
     loop-again

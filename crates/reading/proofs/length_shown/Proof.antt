@@ -6,7 +6,7 @@ pub length-shown-spec : {M : Type 1} → statement M
 length-shown-spec =
     tie.close
     (tie.spec
-    (λ c κs. search needs)
+    (λ c κs. tt)
     (λ c. search needs)
-    (λ c κs. search needs)
+    (λ c κs. tt)
     (λ c. cc))

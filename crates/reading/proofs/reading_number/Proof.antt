@@ -1,5 +1,4 @@
 use Rattle.rules.proofs.Choices.{choices}
-use borrow.Author.Needs.{needs}
 use Rattle.reading.specs.Reading.{readingNumber}
 use Rattle.reading.proofs.reading_number.Statement.{statement}
 use Rattle.reading.proofs.reading_number.Tie as tie
@@ -9,8 +8,8 @@ unfolding readingNumber
 reading-number-spec =
     tie.close
     (tie.spec
-    (λ c κs. search needs)
+    (λ c κs. tt)
     (λ c. search choices depth 9)
-    (λ c κs. search needs)
+    (λ c κs. tt)
     (λ c. search choices depth 9)
     (λ c. search choices depth 9))

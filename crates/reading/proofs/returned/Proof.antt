@@ -1,4 +1,3 @@
-use borrow.Author.Needs.{needs}
 use Rattle.reading.proofs.returned.Statement.{statement}
 use Rattle.reading.proofs.returned.Tie as tie
 
@@ -6,5 +5,5 @@ pub returned-spec : {M : Type 1} → statement M
 returned-spec =
     tie.close
     (tie.spec
-    (λ c κs. search needs)
+    (λ c κs. tt)
     (λ c. cc))

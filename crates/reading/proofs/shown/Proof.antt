@@ -1,4 +1,3 @@
-use borrow.Author.Needs.{needs}
 use Rattle.reading.specs.Reading.{shown}
 use Rattle.rules.proofs.Choices.{conjuncts}
 use Rattle.reading.proofs.shown.Statement.{statement}
@@ -9,16 +8,16 @@ unfolding shown
 shown-spec =
     tie.close
     (tie.spec
-    (λ c κs. search needs)
+    (λ c κs. tt)
     (λ c. search conjuncts depth 12)
-    (λ c κs. search needs)
+    (λ c κs. tt)
     (λ c. search conjuncts depth 12)
-    (λ c κs. search needs)
+    (λ c κs. tt)
     (λ c. search conjuncts depth 12)
-    (λ c κs. search needs)
+    (λ c κs. tt)
     (λ c. search conjuncts depth 12)
-    (λ c κs. search needs)
+    (λ c κs. tt)
     (λ c. search conjuncts depth 12)
-    (λ c κs. search needs)
+    (λ c κs. tt)
     (λ c. search conjuncts depth 12)
     (λ c. search conjuncts depth 12))

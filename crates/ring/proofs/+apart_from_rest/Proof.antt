@@ -44,9 +44,9 @@ pub +apart-from-rest-spec : {M : Type 1} → statement M
     (apart-from-rest-at t)
     apart-from-rest.Post
     (λ c. search rest-none)
-    (λ c κs. search needs)
+    (λ c κs. tt)
     (λ c. search rest-stop)
     (λ c. search needs)
-    (λ c κs. search needs)
+    (λ c κs. tt)
     (λ c κs. (omega arith, search needs))
     (λ c. search rest-on)

@@ -1,4 +1,3 @@
-use borrow.Author.Needs.{needs}
 use Rattle.ring.proofs.buffer_apart.Statement.{statement}
 use Rattle.ring.proofs.buffer_apart.Tie as tie
 
@@ -6,7 +5,7 @@ pub buffer-apart-spec : {M : Type 1} → statement M
 buffer-apart-spec =
     tie.close
     (tie.spec
-    (λ c κs. search needs)
-    (λ c κs. search needs)
-    (λ c κs. search needs)
+    (λ c κs. tt)
+    (λ c κs. tt)
+    (λ c κs. tt)
     (λ c. cc))

@@ -1,4 +1,3 @@
-use borrow.Author.Needs.{needs}
 use Rattle.ring.proofs.descriptor_apart.Statement.{statement}
 use Rattle.ring.proofs.descriptor_apart.Tie as tie
 
@@ -6,7 +5,7 @@ pub descriptor-apart-spec : {M : Type 1} → statement M
 descriptor-apart-spec =
     tie.close
     (tie.spec
-    (λ c κs. search needs)
-    (λ c κs. search needs)
-    (λ c κs. search needs)
+    (λ c κs. tt)
+    (λ c κs. tt)
+    (λ c κs. tt)
     (λ c. cc))

@@ -1,4 +1,3 @@
-use borrow.Author.Needs.{needs}
 use Rattle.ring.specs.Ring.{regionsApart}
 use Rattle.rules.proofs.Choices.{conjuncts}
 use Rattle.ring.proofs.regions_apart.Statement.{statement}
@@ -9,12 +8,12 @@ unfolding regionsApart
 regions-apart-spec =
     tie.close
     (tie.spec
-    (λ c κs. search needs)
+    (λ c κs. tt)
     (λ c. search conjuncts depth 9)
-    (λ c κs. search needs)
+    (λ c κs. tt)
     (λ c. search conjuncts depth 9)
-    (λ c κs. search needs)
+    (λ c κs. tt)
     (λ c. search conjuncts depth 9)
-    (λ c κs. search needs)
+    (λ c κs. tt)
     (λ c. search conjuncts depth 9)
     (λ c. search conjuncts depth 9))

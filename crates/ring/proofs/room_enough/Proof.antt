@@ -1,4 +1,3 @@
-use borrow.Author.Needs.{needs}
 use Rattle.ring.proofs.room_enough.Statement.{statement}
 use Rattle.ring.proofs.room_enough.Tie as tie
 
@@ -6,5 +5,5 @@ pub room-enough-spec : {M : Type 1} → statement M
 room-enough-spec =
     tie.close
     (tie.spec
-    (λ c κs. search needs)
+    (λ c κs. tt)
     (λ c. cc))

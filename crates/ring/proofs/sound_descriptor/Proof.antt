@@ -1,4 +1,3 @@
-use borrow.Author.Needs.{needs}
 use Rattle.ring.specs.Ring.{soundDescriptor}
 use Rattle.rules.proofs.Choices.{conjuncts}
 use Rattle.ring.proofs.sound_descriptor.Statement.{statement}
@@ -9,16 +8,16 @@ unfolding soundDescriptor
 sound-descriptor-spec =
     tie.close
     (tie.spec
-    (λ c κs. search needs)
+    (λ c κs. tt)
     (λ c. search conjuncts depth 12)
-    (λ c κs. search needs)
+    (λ c κs. tt)
     (λ c. search conjuncts depth 12)
-    (λ c κs. search needs)
+    (λ c κs. tt)
     (λ c. search conjuncts depth 12)
-    (λ c κs. search needs)
+    (λ c κs. tt)
     (λ c. search conjuncts depth 12)
-    (λ c κs. search needs)
+    (λ c κs. tt)
     (λ c. search conjuncts depth 12)
-    (λ c κs. search needs)
+    (λ c κs. tt)
     (λ c. search conjuncts depth 12)
     (λ c. search conjuncts depth 12))

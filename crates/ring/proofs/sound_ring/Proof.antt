@@ -1,4 +1,3 @@
-use borrow.Author.Needs.{needs}
 use Rattle.ring.specs.Ring.{soundRing}
 use Rattle.rules.proofs.Choices.{conjuncts}
 use Rattle.ring.proofs.sound_ring.Statement.{statement}
@@ -9,12 +8,12 @@ unfolding soundRing
 sound-ring-spec =
     tie.close
     (tie.spec
-    (λ c κs. search needs)
+    (λ c κs. tt)
     (λ c. search conjuncts depth 12)
     (λ c. search conjuncts depth 12)
     (λ c. search conjuncts depth 12)
-    (λ c κs. search needs)
+    (λ c κs. tt)
     (λ c. search conjuncts depth 12)
-    (λ c κs. search needs)
+    (λ c κs. tt)
     (λ c. search conjuncts depth 12)
     (λ c. search conjuncts depth 12))

@@ -12,7 +12,7 @@ pad-spec =
     (λ c. search needs)
     (λ c. search needs)
     (λ c. simp length-take (omega arith))
-    (λ c κs. search needs)
+    (λ c κs. tt)
     (λ c. search needs)
     (λ c. search padding)
     (λ c. search no-padding))

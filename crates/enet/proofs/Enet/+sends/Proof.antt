@@ -32,7 +32,7 @@ pub +sends-spec : {M : Type 1} → statement M
     (sends-at t)
     sends.Post
     (λ c. search run-none)
-    (λ c κs. search needs)
+    (λ c κs. tt)
     (λ c. search needs)
     (λ c. search needs)
     (λ c. search run-stop)

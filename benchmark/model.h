@@ -1,0 +1,40 @@
+/*
+ * The contestants of the benchmark: the proved library (libspeed.a) and the
+ * plain C model (model.c). All have the same two functions.
+ *
+ * `memory` is the window, at address 0, of at least 16 bytes. Each call makes a
+ * new device over it: station 02-00-00-00-00-01, both engines started at the
+ * descriptor at address 0.
+ */
+#ifndef MODEL_H
+#define MODEL_H
+
+#include <stddef.h>
+#include <stdint.h>
+
+/* Grants the descriptor and brings the frame in, `rounds` times. Returns how
+ * often the frame was taken. */
+typedef uint32_t receive_rounds(uint8_t *memory, size_t memory_length,
+                                const uint8_t *frame, size_t frame_length,
+                                uint32_t rounds);
+
+/* Writes VALID into the descriptor and sends its frame, `rounds` times.
+ * Returns how often it was sent. */
+typedef uint32_t send_rounds(uint8_t *memory, size_t memory_length,
+                             uint8_t *output, size_t output_length,
+                             uint32_t rounds);
+
+struct contestant {
+    const char *name;
+    receive_rounds *receive;
+    send_rounds *send;
+};
+
+receive_rounds speed_receive;
+send_rounds speed_send;
+
+/* model.c, compiled with the check bit by bit and with that of zlib */
+extern const struct contestant model_bitwise;
+extern const struct contestant model_zlib;
+
+#endif

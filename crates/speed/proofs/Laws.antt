@@ -1,0 +1,56 @@
+-- What the functions of this crate leave, from what their calls leave; and the turns of the two loops. Assumes nothing.
+use mathlib.Core.Path.{_≡_, refl}
+use mathlib.Core.List.{List}
+use Prim.Native.Nat.{ℕ, zero, suc, _+_, _-_, _≤_, _<_}
+use native.Mathlib.Omega.{arith}
+use Rattle.descriptor.specs.Descriptor.{withPacketStatus}
+use Rattle.enet.specs.declared.Enet.{Enet}
+use Rattle.enet.specs.declared.Answered.{Answered}
+use Rattle.enet.specs.declared.Sent.{Sent}
+use Rattle.enet.specs.Device.{outcome}
+use Rattle.enet.specs.Registers.{new, write}
+use Rattle.enet.specs.Grant.{grant, grantedStatus}
+use Rattle.enet.specs.Receive.{receive}
+use Rattle.enet.specs.Send.{sending, send}
+use Rattle.speed.specs.Rounds.{bench, passed, received, receiveRound, receiveRounds, transmitted, sendRound, sendRounds}
+
+pub bench-is : (w : ℕ) (n a b c d : Answered) → n ≡ new 0 w → a ≡ write (n .device) 0x404 0x100 → b ≡ write (a .device) 0x408 2
+    → c ≡ write (b .device) 0x10 5 → d ≡ write (c .device) 0x30 5 → d .device ≡ bench w
+unfolding bench
+bench-is w n a b c d e₀ e₁ e₂ e₃ e₄ = rw (e₄, e₃, e₂, e₁, e₀)
+
+-- ---- frames in
+
+pub receive-round-is : (d : Enet) (m f : List ℕ) (g r : Answered) (m' m″ : List ℕ) → outcome g m' ≡ grant d m 0
+    → outcome r m″ ≡ receive (g .device) m' f → outcome r m″ ≡ receiveRound d m f
+unfolding receiveRound
+receive-round-is d m f g r m' m″ e h = rw (← e) h
+
+pub receive-turn : (left taken p : ℕ) (d : Enet) (m f : List ℕ) (a : Answered) (m' : List ℕ) → 0 < left → outcome a m' ≡ receiveRound d m f
+    → p ≡ passed (a .number) → receiveRounds (left - 1) (taken + p) (a .device) m' f ≡ receiveRounds left taken d m f
+unfolding receiveRounds
+receive-turn zero taken p d m f a m' h e q = absurd (omega arith)
+receive-turn (suc left) taken p d m f a m' h e q = let k : suc left - 1 ≡ left = omega arith in rw (k, ← e, q)
+
+pub receive-end : (left taken : ℕ) (d : Enet) (m f : List ℕ) → left ≤ 0 → receiveRounds left taken d m f ≡ received taken m
+unfolding receiveRounds
+receive-end zero taken d m f h = refl
+receive-end (suc left) taken d m f h = absurd (omega arith)
+
+-- ---- frames out
+
+pub send-round-is : (d : Enet) (m m' out : List ℕ) (r : Sent) (m″ out' : List ℕ) → m' ≡ withPacketStatus 0 m 0 grantedStatus
+    → sending r m″ out' ≡ send d m' out → sending r m″ out' ≡ sendRound d m out
+unfolding sendRound
+send-round-is d m m' out r m″ out' e h = rw e at h
+
+pub send-turn : (left gone p : ℕ) (d : Enet) (m out : List ℕ) (s : Sent) (m' out' : List ℕ) → 0 < left → sending s m' out' ≡ sendRound d m out
+    → p ≡ passed (s .number) → sendRounds (left - 1) (gone + p) (s .device) m' out' ≡ sendRounds left gone d m out
+unfolding sendRounds
+send-turn zero gone p d m out s m' out' h e q = absurd (omega arith)
+send-turn (suc left) gone p d m out s m' out' h e q = let k : suc left - 1 ≡ left = omega arith in rw (k, ← e, q)
+
+pub send-end : (left gone : ℕ) (d : Enet) (m out : List ℕ) → left ≤ 0 → sendRounds left gone d m out ≡ transmitted gone m out
+unfolding sendRounds
+send-end zero gone d m out h = refl
+send-end (suc left) gone d m out h = absurd (omega arith)
