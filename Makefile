@@ -3,28 +3,42 @@
 
 ORACLE = target/oracle/release
 WARNINGS = -std=c11 -O2 -Wall -Wextra -Werror
+# How long `make fuzz` runs.
+SECONDS_TO_RUN ?= 60
 export CARGO_TARGET_DIR = $(CURDIR)/target/oracle
 export TOCKFEATHER_LIB_DIR = $(CURDIR)/target/staticlib
-# The scripts below tests/ leave no compiled files beside them.
+# Scripts leave no compiled files beside them.
 export PYTHONDONTWRITEBYTECODE = 1
 
-.PHONY: help test gate outside host library programs oracle clean
+.PHONY: help day test programs library host oracle outside fuzz clean
 
 help:
-	@echo 'make test       prove every crate, try every must-fail edit, run all tests: the gate'
-	@echo 'make programs   prove and build target/bin/verdict'
-	@echo 'make library    prove and build target/staticlib/libtockfeather.a, for include/tockfeather.h'
-	@echo 'make host       build the C bench host, target/host/host'
-	@echo 'make oracle     build the independent model below $(ORACLE)/'
-	@echo 'make outside    the tests outside the prover alone, on what is built'
-	@echo 'make clean      remove target/'
+	@echo 'make day         a sample bench day: report on standard output, picture in target/day/day.svg'
+	@echo 'make test        prove every crate, try every must-fail edit, run all tests: the gate'
+	@echo 'make programs    prove and build target/bin/bench, the console, and target/bin/verdict'
+	@echo 'make library     prove and build target/staticlib/libtockfeather.a, for include/tockfeather.h'
+	@echo 'make host        build the C bench host, target/host/host'
+	@echo 'make oracle      build the independent model below $(ORACLE)/'
+	@echo 'make outside     the tests outside the prover alone, on what is built'
+	@echo 'make fuzz        random scripts with fresh seeds against the independent model; SECONDS_TO_RUN=60'
+	@echo 'make benchmark   frames a second against a plain C model (docs/PERFORMANCE.md)'
+	@echo 'make clean       remove target/'
+
+day:
+	@echo 'Proving and building the console; the first time this takes a few minutes.'
+	@rt check bench > /dev/null 2>&1 || rt check bench
+	@mkdir -p target/day
+	@target/bin/bench < examples/day.txt > target/day/day.out
+	@tools/report examples/day.txt target/day/day.out --svg target/day/day.svg
+	@echo
+	@echo 'The picture of the day is target/day/day.svg, the console'"'"'s own output target/day/day.out.'
 
 # The gate. Its last line is the prover's own verdict, `N passed, 0 failed`; any failure before or after it fails the run.
 test:
 	@tests/gate
 
 programs:
-	rt check verdict
+	rt check bench verdict
 
 library:
 	rt staticlib tockfeather
@@ -46,8 +60,17 @@ outside: programs host oracle
 	cd oracle && cargo test --release --offline --quiet
 	@echo '== the C functions and the verdict program against the independent model'
 	$(ORACLE)/compare-frames target/bin/verdict
+	@echo '== the console against the independent model'
+	$(ORACLE)/compare-console target/bin/bench
 	@echo '== the claims on histories, by the independent model alone'
 	$(ORACLE)/histories
+	@echo '== the report of the sample day'
+	tools/test-report target/bin/bench
+
+fuzz: programs oracle
+	$(ORACLE)/fuzz target/bin/bench $(SECONDS_TO_RUN)
 
 clean:
 	rm -rf target
+
+include benchmark/benchmark.mk

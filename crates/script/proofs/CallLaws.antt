@@ -1,0 +1,92 @@
+-- Laws of calls: a command with its numbers, and the ways out of a line's reading. Assumes nothing.
+use mathlib.Core.Path.{_≡_}
+use mathlib.Core.Bool.{Bool, true, false, not}
+use mathlib.Core.List.{List}
+use Prim.Native.Nat.{ℕ, _≤_, _<_}
+use borrow.Author.Tests.{lt-ltb, le-ltb}
+use lib.ListN.{length}
+use Rattle.rules.specs.Choice.{if_then_else_}
+use Rattle.rules.proofs.Choices.{said-not}
+use Rattle.script.specs.declared.numbers.Number.{Number}
+use Rattle.script.specs.declared.numbers.Number.the-variants.{Is, Wrong}
+use Rattle.script.specs.declared.calls.Command.{Command}
+use Rattle.script.specs.declared.calls.Call.{Call}
+use Rattle.script.specs.Calls.{noCall, given, alone, withOne, withTwo, callOf}
+use Rattle.script.specs.Words.{spaced, first, rest}
+
+-- ---- a command with its numbers
+
+module _ (command : Command) where
+  pub given-first : (a b : Number) (r : Call) → a ≡ Wrong → r ≡ noCall → r ≡ given command a b
+  unfolding given
+  given-first a b r e h = rw e h
+
+  pub given-second : (a b : Number) (x : ℕ) (r : Call) → a ≡ Is x → b ≡ Wrong → r ≡ noCall → r ≡ given command a b
+  unfolding given
+  given-second a b x r e k h = rw (e, k) h
+
+  pub given-both : (a b : Number) (x y : ℕ) → a ≡ Is x → b ≡ Is y → record { command = command; a = x; b = y } ≡ given command a b
+  unfolding given
+  given-both a b x y e k = rw (e, k)
+
+  -- the numbers that calls answered
+  pub given-one : (a a′ b : Number) (r : Call) → r ≡ given command a b → a ≡ a′ → r ≡ given command a′ b
+  given-one a a′ b r h e = rw e at h
+
+  pub given-two : (a a′ b b′ : Number) (r : Call) → r ≡ given command a b → a ≡ a′ → b ≡ b′ → r ≡ given command a′ b′
+  given-two a a′ b b′ r h e k = rw (e, k) at h
+
+-- ---- a name that was tested by a call, and is the one asked for or not
+
+module _ (s r : Bool) (x a b : Call) (is : r ≡ s) where
+  pub named : r ≡ true → x ≡ a → x ≡ (if s then a else b)
+  named t e = rw (← is, t) e
+
+  pub not-named : r ≡ false → x ≡ b → x ≡ (if s then a else b)
+  not-named t e = rw (← is, t) e
+
+-- ---- a line
+
+pub line-long : (line : List ℕ) (r : Call) → 4096 < length line → r ≡ noCall → r ≡ callOf line
+unfolding callOf
+line-long line r l h = rw (lt-ltb 4096 (length line) l) h
+
+module _ (line : List ℕ) (r : Call) (s : Bool) (l : length line ≤ 4096) (is : s ≡ spaced line) where
+  pub line-alone : not s ≡ true → r ≡ alone line → r ≡ callOf line
+  unfolding callOf
+  line-alone t h = rw (le-ltb 4096 (length line) l, said-not (spaced line) s true is t) h
+
+  module _ (behind : List ℕ) (t : not s ≡ false) (cut : behind ≡ rest line) (s₂ : Bool) (is₂ : s₂ ≡ spaced behind) where
+    pub line-one : (name : List ℕ) → not s₂ ≡ true → name ≡ first line → r ≡ withOne name behind → r ≡ callOf line
+    unfolding callOf
+    line-one name t₂ n h =
+        rw (le-ltb 4096 (length line) l, said-not (spaced line) s false is t, ← cut, said-not (spaced behind) s₂ true is₂ t₂, ← n) h
+
+    module _ (last : List ℕ) (t₂ : not s₂ ≡ false) (cut₂ : last ≡ rest behind) (s₃ : Bool) (is₃ : s₃ ≡ spaced last) where
+      pub line-two : (name word : List ℕ) → not s₃ ≡ true → name ≡ first line → word ≡ first behind → r ≡ withTwo name word last → r ≡ callOf line
+      unfolding callOf
+      line-two name word t₃ n w h =
+          rw (
+            le-ltb 4096 (length line) l,
+            said-not (spaced line) s false is t,
+            ← cut,
+            said-not (spaced behind) s₂ false is₂ t₂,
+            ← cut₂,
+            said-not (spaced last) s₃ true is₃ t₃,
+            ← n,
+            ← w,
+          )
+          h
+
+      pub line-more : not s₃ ≡ false → r ≡ noCall → r ≡ callOf line
+      unfolding callOf
+      line-more t₃ h =
+          rw (
+            le-ltb 4096 (length line) l,
+            said-not (spaced line) s false is t,
+            ← cut,
+            said-not (spaced behind) s₂ false is₂ t₂,
+            ← cut₂,
+            said-not (spaced last) s₃ false is₃ t₃,
+          )
+          h

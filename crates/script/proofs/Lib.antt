@@ -1,0 +1,4 @@
+pub mod CallLaws
+pub mod NumberLaws
+pub mod PairLaws
+pub mod WordLaws

@@ -1,0 +1,224 @@
+"""What the calls of a bench day say in words, and what they come to."""
+import dataclasses
+import zlib
+
+import pairing
+import wording
+from pairing import Fault
+from wording import count, message
+
+# calls whose answer begins with a numbered result
+NUMBERED = {name for name, (_, answer) in pairing.FORMS.items() if answer[:1] == [pairing.NUMBER]}
+
+
+@dataclasses.dataclass
+class Told:
+    """A call in words, and what the picture shows of it."""
+    at: int
+    asked: str
+    answered: str = ''
+    # further lines
+    more: list = dataclasses.field(default_factory=list)
+    # grants, delivered, lost, refused or sent; a frame's number; how many frames or grants
+    kind: str = ''
+    number: int = 0
+    times: int = 1
+    # grants made less frames delivered, after the call
+    fill: int = 0
+
+
+@dataclasses.dataclass
+class Totals:
+    calls: int = 0
+    grants: int = 0
+    delivered: int = 0
+    delivered_bytes: int = 0
+    lost: int = 0
+    lost_bytes: int = 0
+    sent: int = 0
+    sent_bytes: int = 0
+    # by number
+    frames_refused: dict = dataclasses.field(default_factory=dict)
+    grants_refused: dict = dataclasses.field(default_factory=dict)
+
+
+def add(counts, number):
+    counts[number] = counts.get(number, 0) + 1
+
+
+def closed(data, n):
+    """The first n bytes end with their check sequence."""
+    return zlib.crc32(data[:n - 4]) == int.from_bytes(data[n - 4:n], 'little')
+
+
+def frames_in(data, frames):
+    """The bytes of a step run cut into its frames, each up to the first place where its check sequence is right; none,
+    where that does not give as many."""
+    found = []
+    while data:
+        end = next((n for n in range(64, min(len(data), 1518) + 1) if closed(data, n)), len(data))
+        found.append(data[:end])
+        data = data[end:]
+    return found if len(found) == frames else []
+
+
+def odd(call):
+    """What is wrong with an answer of the right form, or nothing."""
+    if call.name in NUMBERED and len(wording.NUMBERS) <= call.answer[0]:
+        return f'{call.answer[0]} is no numbered result'
+    if call.name == 'run' and call.answer[2] != len(call.answer[3]):
+        return f'{count(call.answer[2], "byte")} promised, {len(call.answer[3])} written'
+    return ''
+
+
+class Day:
+    """A script and its output, told one by one: headings, `Told` and faults."""
+
+    def __init__(self, script, output):
+        self.totals = Totals()
+        self.forget()
+        self.entries = [self.told(entry) for entry in pairing.entries(script, output)]
+        self.calls = [entry for entry in self.entries if isinstance(entry, Told)]
+        self.faults = [entry for entry in self.entries if isinstance(entry, Fault)]
+
+    def forget(self):
+        """A new bench has no ring yet."""
+        # bytes that the firmware wrote, by address
+        self.written = {}
+        # addresses: those of the ring last found sound, and those written as descriptors
+        self.ring, self.descriptors = [], set()
+        self.fill = 0
+
+    def told(self, entry):
+        if not isinstance(entry, pairing.Call):
+            return entry
+        if odd(entry):
+            return Fault(f'line {entry.line.at}, answer to {pairing.quoted(entry.line.text)}: {odd(entry)}')
+        told = Told(entry.line.at, entry.line.text)
+        getattr(self, f'tell_{entry.name}')(told, *entry.arguments, *entry.answer)
+        told.fill = self.fill
+        self.totals.calls += 1
+        return told
+
+    # ---- places
+
+    def descriptor(self, address):
+        if address in self.ring:
+            return f'descriptor {self.ring.index(address) + 1} of the ring'
+        return f'descriptor at {address:08x}'
+
+    def ring_from(self, first, number):
+        """The addresses of a ring, by the next words that the firmware wrote, as far as they are distinct."""
+        addresses, following = [], first
+        while len(addresses) < number and following not in addresses:
+            addresses.append(following)
+            word = bytes(self.written.get(following + 8 + k, 0) for k in range(4))
+            following = wording.address(wording.word(word, 0))
+        return addresses
+
+    def meaning(self, address, data):
+        """What bytes are that the firmware writes."""
+        if len(data) == 4 and address - 12 in self.descriptors:
+            return f'packet status of the {self.descriptor(address - 12)}, {wording.owner(wording.word(data, 0))}'
+        if len(data) == 16:
+            self.descriptors.add(address)
+            return f'a descriptor, {wording.descriptor(data)}'
+        return message(data, 0)
+
+    def engine(self, name, runs, place):
+        at = f'{place:08x}' + (f' ({self.descriptor(place)})' if place in self.ring else '')
+        return f'{name} {"runs" if runs else "is stopped"}, place {at}'
+
+    # ---- calls
+
+    def tell_new(self, told, base, length, number):
+        self.forget()
+        told.answered = wording.answer(number, f'a window of {length} bytes from {base:08x} on, all zero')
+
+    def tell_lend(self, told, length):
+        told.answered = f'lent from now on: {count(length, "byte")}'
+
+    def tell_read(self, told, offset, number, value):
+        told.answered = wording.answer(number, f'{wording.register(offset)} is {value:08x}: {wording.holds(offset, value)}')
+
+    def tell_write(self, told, offset, value, number):
+        told.answered = wording.answer(number, f'{wording.register(offset)}: {wording.takes(offset, value)}')
+
+    def tell_line(self, told, high):
+        told.answered = f'{high}: the interrupt line is {"high" if high else "low"}'
+
+    def tell_grant(self, told, address, number):
+        told.answered = wording.answer(number, f'{self.descriptor(address)} handed to the DMA')
+        if number:
+            add(self.totals.grants_refused, number)
+            return
+        told.kind = 'grants'
+        self.totals.grants += 1
+        self.fill += 1
+
+    def tell_frame(self, told, data, number):
+        told.asked = f'frame ({message(data, 4)})'
+        told.number = number
+        if number == 0:
+            told.kind, told.answered = 'delivered', '0 delivered'
+            self.totals.delivered += 1
+            self.totals.delivered_bytes += len(data)
+            self.fill -= 1
+        elif number == 8:
+            told.kind, told.answered = 'lost', f'8 lost: {wording.NUMBERS[8]}; PACKET_LOST is set'
+            self.totals.lost += 1
+            self.totals.lost_bytes += len(data)
+        else:
+            told.kind, told.answered = 'refused', wording.answer(number)
+            add(self.totals.frames_refused, number)
+
+    def tell_send(self, told, room, number, data):
+        told.answered = wording.answer(number, f'sent {message(data, 4)}')
+        self.sent(told, 0 if number else 1, data)
+
+    def tell_run(self, told, allowance, room, number, steps, length, data):
+        # the last step is the one that did not send
+        frames = steps - 1 if number and steps else steps
+        told.answered = (f'{count(steps, "step")}, {count(frames, "frame")} sent, {count(length, "byte")}; '
+                         f'last answer {wording.answer(number)}')
+        told.more = [f'sent {message(frame, 4)}' for frame in frames_in(data, frames)]
+        self.sent(told, frames, data)
+
+    def sent(self, told, frames, data):
+        if frames:
+            told.kind, told.times = 'sent', frames
+        self.totals.sent += frames
+        self.totals.sent_bytes += len(data)
+
+    def tell_show(self, told, address, number, data):
+        told.answered = wording.answer(number, f'{self.descriptor(address)} holds {message(data, 0)}')
+        if number == 13:
+            told.answered += ', or no frame to show'
+
+    def tell_ring(self, told, number, first, verdict):
+        if verdict == 'no':
+            told.answered = f'no: not a sound ring of {count(number, "descriptor")}'
+            return
+        self.ring = self.ring_from(first, number)
+        told.answered = f'yes: a sound ring of {count(number, "descriptor")}, the first at {first:08x}'
+
+    def tell_poke(self, told, address, data, verdict):
+        told.asked = f'poke {address:08x} ({count(len(data), "byte")})'
+        if verdict == 'outside':
+            told.answered = 'outside the window: nothing is written'
+            return
+        self.written.update((address + k, byte) for k, byte in enumerate(data))
+        told.answered = f'ok: {self.meaning(address, data)}'
+
+    def tell_peek(self, told, address, length, verdict):
+        if verdict == 'outside':
+            told.answered = 'outside the window'
+        else:
+            told.answered = wording.text(pairing.bytes_of(verdict)) or verdict
+
+    def tell_check(self, told, value):
+        told.answered = f"{value:08x}: CRC-32 of the window's bytes"
+
+    def tell_state(self, told, receives, receive_place, sends, send_place):
+        engines = [('receiving', receives, receive_place), ('sending', sends, send_place)]
+        told.answered = '; '.join(self.engine(*engine) for engine in engines)

@@ -1,0 +1,188 @@
+"""The words of a report: numbered results, registers, frames and descriptors."""
+
+# document 01, "Numbered results", the column "Given when"
+NUMBERS = [
+    'done',
+    'window not allowed',
+    'register not modelled',
+    'that engine is not running',
+    'frame under 64 or over 1,518 bytes',
+    'frame check sequence wrong',
+    'address not for this station',
+    'chain fault',
+    'descriptor not granted',
+    'output shorter than 1,518 bytes',
+    'step allowance over 4,096',
+    "lent memory not of the window's length",
+    'send length under 14 or over 1,514',
+    # for reading also: no frame to show
+    'descriptor not at a multiple of 4 or not all in the window',
+    'descriptor already granted',
+    'next-descriptor register written while its engine runs',
+]
+
+# what a refusal changes, where it changes anything; 8 does so on receive only
+LEAVES = {
+    1: 'the reset state, no window',
+    7: 'that engine stops',
+    12: 'sending stops',
+}
+
+# offset: short name, name
+REGISTERS = {
+    0x04: ('IER', 'interrupt enable'),
+    0x08: ('ISR', 'interrupt status'),
+    0x10: ('RXSTR', 'receive start'),
+    0x1c: ('RXNDAR', 'receive next descriptor'),
+    0x30: ('TXSTR', 'send start'),
+    0x3c: ('TXNDAR', 'send next descriptor'),
+    0x400: ('MCR', 'MAC control'),
+    0x404: ('MAH', 'MAC address high'),
+    0x408: ('MAL', 'MAC address low'),
+}
+
+INTERRUPTS = [
+    ('TX_CURR_DONE', 31, 31), ('MAC-802.3_INT', 28, 28), ('TX_MERR_INT', 25, 25), ('TX_DONE', 23, 23),
+    ('TX_NEXT', 22, 22), ('TX_TO', 19, 19), ('TX_ENTRY', 18, 18), ('TX_FULL', 17, 17), ('TX_EMPTY', 16, 16),
+    ('RX_CURR_DONE', 15, 15), ('RX_MERR_INT', 9, 9), ('RX_DONE', 7, 7), ('RX_NEXT', 6, 6), ('PACKET_LOST', 5, 5),
+    ('RX_TO', 3, 3), ('RX_ENTRY', 2, 2), ('RX_FULL', 1, 1), ('RX_EMPTY', 0, 0),
+]
+
+# fields by name, highest and lowest bit (docs/REGISTERS.md)
+FIELDS = {
+    'IER': INTERRUPTS,
+    'ISR': INTERRUPTS,
+    'RXSTR': [('DFETCH_DLY', 23, 8), ('COLL_SEEN', 7, 7), ('RUNT_FRAME', 6, 6), ('FILTER_FAIL', 5, 5),
+              ('START_FETCH', 2, 2), ('DMA_EN', 0, 0)],
+    'TXSTR': [('DFETCH_DLY', 23, 8), ('UNDER_RUN', 5, 5), ('START_FETCH', 2, 2), ('DMA_EN', 0, 0)],
+    'MCR': [('RA', 31, 31), ('EN', 30, 30), ('PS', 25, 24), ('DRO', 23, 23), ('LM', 22, 21), ('FDM', 20, 20),
+            ('AFM', 19, 17), ('PWF', 16, 16), ('VFM', 15, 15), ('ELC', 12, 12), ('DBF', 11, 11), ('DPR', 10, 10),
+            ('RVFF', 9, 9), ('APR', 8, 8), ('BL', 7, 6), ('DCE', 5, 5), ('RVBE', 4, 4), ('TE', 3, 3), ('RE', 2, 2),
+            ('RCFA', 0, 0)],
+}
+
+DMA_EN, START_FETCH, NEXT_ENABLE, VALID = 1 << 0, 1 << 2, 1 << 14, 1 << 16
+BROADCAST = b'\xff' * 6
+LONGEST_TEXT = 52
+
+
+def count(n, noun):
+    """1 frame, 2 frames."""
+    return f'{n} {noun}' if n == 1 else f'{n} {noun}s'
+
+
+def answer(number, done=''):
+    """A numbered result: what was done, or the words of its refusal."""
+    if number == 0:
+        return f'0 done: {done}' if done else '0 done'
+    left = f'; {LEAVES[number]}' if number in LEAVES else ''
+    return f'{number} refused: {NUMBERS[number]}{left}'
+
+
+# ---- registers
+
+def register(offset):
+    if offset not in REGISTERS:
+        return f'the register at {offset:x}'
+    short, name = REGISTERS[offset]
+    return f'{short} ({name})'
+
+
+def fields(short, value):
+    """The fields of a register that are not 0, the highest first."""
+    found = []
+    for name, high, low in FIELDS[short]:
+        field = value >> low & (1 << high - low + 1) - 1
+        if field:
+            found.append(name if high == low else f'{name}={field}')
+    return ', '.join(found) or 'no bit set'
+
+
+def address_filter(value):
+    """What the address rule takes from MAC control."""
+    receive_all, all_multicast = value >> 31 & 1 == 1, value >> 17 & 7 == 5
+    return f'receive-all {"on" if receive_all else "off"}, all-multicast {"on" if all_multicast else "off"}'
+
+
+def holds(offset, value):
+    """What a register's value says."""
+    short, _ = REGISTERS.get(offset, ('', ''))
+    if short == 'MCR':
+        return f'{fields(short, value)}; {address_filter(value)}'
+    if short in FIELDS:
+        return fields(short, value)
+    if short == 'MAL':
+        return f'the station address begins {hyphens(value.to_bytes(4, "little"))}'
+    if short == 'MAH':
+        return f'the station address ends {hyphens((value & 0xffff).to_bytes(2, "little"))}'
+    if short in ('RXNDAR', 'TXNDAR'):
+        return f'address {address(value):08x}'
+    return 'not known to this report'
+
+
+def takes(offset, value):
+    """What a value does that is written to a register."""
+    short, _ = REGISTERS.get(offset, ('', ''))
+    if short == 'ISR':
+        return f'clears {fields(short, value)}' if value else 'clears nothing'
+    if short == 'IER':
+        return f'enables {fields(short, value)}' if value else 'enables nothing'
+    if short in ('RXSTR', 'TXSTR'):
+        return f'{fields(short, value)}; {started("receiving" if short == "RXSTR" else "sending", value)}'
+    return holds(offset, value)
+
+
+def started(engine, value):
+    """What a start write does to its engine."""
+    if not value & DMA_EN:
+        return f'{engine} stops'
+    return f'{engine} runs' if value & START_FETCH else f'{engine} is not started'
+
+
+# ---- bytes
+
+def hyphens(data):
+    """02-00-00-00-00-01"""
+    return data.hex('-').upper()
+
+
+def text(data):
+    """The line of text that bytes hold before their closing zeros, in quotation marks; nothing, where they hold no such."""
+    line = data.rstrip(b'\0').removesuffix(b'\n')
+    if not line or any(byte < 0x20 or 0x7e < byte for byte in line):
+        return ''
+    shown = line.decode('ascii')
+    return f'"{shown}"' if len(shown) <= LONGEST_TEXT else f'"{shown[:LONGEST_TEXT]}.."'
+
+
+def message(data, check):
+    """A frame in a few words. Its last `check` bytes are its check sequence."""
+    words = [count(len(data), 'byte')]
+    if 14 + check <= len(data):
+        to, kind = data[:6], data[12:14].hex().upper()
+        words.append(f'to {hyphens(to)}')
+        words.append(f'{kind} {text(data[14:len(data) - check])}'.rstrip())
+    return ', '.join(words)
+
+
+# ---- descriptors
+
+def address(value):
+    """An address is taken with the low two bits cleared."""
+    return value & 0xfffffffc
+
+
+def word(data, at):
+    return int.from_bytes(data[at:at + 4], 'little')
+
+
+def owner(status):
+    """Who has a descriptor, by its packet status word."""
+    return 'granted' if status & VALID else 'returned'
+
+
+def descriptor(data):
+    """Sixteen bytes as a descriptor."""
+    control, start, following, status = (word(data, at) for at in (0, 4, 8, 12))
+    linked = f'next {address(following):08x}' if control & NEXT_ENABLE else 'no next'
+    return f'count {control & 0xfff}, start {start:08x}, {linked}, {owner(status)}'
