@@ -84,3 +84,32 @@ pub(crate) fn put_bytes(text: &mut [u8], at: usize, s: &[u8]) -> usize {
     }
     next
 }
+
+// A line of fixed words.
+pub(crate) fn said(text: &mut [u8], at: usize, words: &[u8]) -> usize {
+    let at = put(text, at, words);
+    put(text, at, b"\n")
+}
+
+// The line of a call that answers a number alone.
+pub(crate) fn answered(text: &mut [u8], at: usize, name: &[u8], number: u32) -> usize {
+    let at = put(text, at, name);
+    let at = put_number(text, at, number as u64);
+    put(text, at, b"\n")
+}
+
+// The line of a call that answers a number and bytes.
+pub(crate) fn shown(text: &mut [u8], at: usize, name: &[u8], number: u32, s: &[u8]) -> usize {
+    let at = put(text, at, name);
+    let at = put_number(text, at, number as u64);
+    let at = put_bytes(text, at, s);
+    put(text, at, b"\n")
+}
+
+// The line of a step run that wrote the bytes of s.
+pub(crate) fn run_shown(text: &mut [u8], at: usize, ran: Ran, s: &[u8]) -> usize {
+    let at = put(text, at, b"run");
+    let at = put_run(text, at, ran);
+    let at = put_bytes(text, at, s);
+    put(text, at, b"\n")
+}
