@@ -26,7 +26,7 @@ help:
 
 day:
 	@echo 'Proving and building the console; the first time this takes a few minutes.'
-	@rt check bench > /dev/null 2>&1 || rt check bench
+	@tools/progress rt check bench
 	@mkdir -p target/day
 	@target/bin/bench < examples/day.txt > target/day/day.out
 	@tools/report examples/day.txt target/day/day.out --svg target/day/day.svg
@@ -38,10 +38,10 @@ test:
 	@tests/gate
 
 programs:
-	rt check bench verdict
+	@tools/progress rt check bench verdict
 
 library:
-	rt staticlib tockfeather
+	@tools/progress rt staticlib tockfeather
 
 host: library
 	mkdir -p target/host
@@ -65,7 +65,7 @@ outside: programs host oracle
 	@echo '== the claims on histories, by the independent model alone'
 	$(ORACLE)/histories
 	@echo '== the report of the sample day'
-	tools/test-report target/bin/bench
+	python3 tests/report.py target/bin/bench
 
 fuzz: programs oracle
 	$(ORACLE)/fuzz target/bin/bench $(SECONDS_TO_RUN)

@@ -4,7 +4,7 @@ BENCHMARK = target/benchmark
 .PHONY: benchmark
 
 benchmark:
-	rt staticlib speed
+	@tools/progress rt staticlib speed
 	mkdir -p $(BENCHMARK)
 	gcc $(WARNINGS) -c benchmark/model.c -o $(BENCHMARK)/bitwise.o
 	if echo '#include <zlib.h>' | gcc -E - >/dev/null 2>&1; then \

@@ -2,54 +2,64 @@
 // not kept.
 ghost use Prim.Native.Nat.{_<_, _≤_};
 ghost use lib.ListN.{length};
-use crate::Console;
-use crate::output;
-use script::calls;
+use crate::Session;
+use crate::write;
 
-// The console after a part of a chunk, and where that part ends.
+// The longest answer: the digits of 65,536 bytes, and words and numbers of fewer than 64 characters.
+const LONGEST: usize = 131136;
+
+// The session after a part of a chunk, and where that part ends.
 struct Taken {
-    console: Console,
+    session: Session,
     to: usize,
 }
 
-// A line that writes nothing: an empty one, or a comment.
-fn silent(line: &[u8]) -> bool {
-    if line.len() == 0 {
-        return true;
+// Keeps the characters of `part` behind the first `kept` of a line, as many as there is room for, and answers how many are
+// kept then.
+fn keep(line: &mut [u8], kept: usize, part: &[u8]) -> usize {
+    memory::store(line, kept, part);
+    if kept <= line.len() {
+        if part.len() <= line.len() - kept {
+            return kept + part.len();
+        }
     }
-    line[0] == b'#'
+    line.len()
 }
 
-impl Console {
-    // Keeps the characters of `part` behind those of the line at hand, as many as there is room for.
-    fn keep(mut self, line: &mut [u8], part: &[u8]) -> Console {
-        let kept = self.kept;
-        memory::store(line, kept, part);
-        if kept <= line.len() {
-            if part.len() <= line.len() - kept {
-                self.kept = kept + part.len();
-                return self;
-            }
+// Writes what waits where the longest answer has no room behind it, and answers how much waits then.
+fn make_room(text: &[u8], waiting: usize) -> usize {
+    if waiting <= text.len() {
+        if LONGEST <= text.len() - waiting {
+            return waiting;
         }
-        self.kept = line.len();
+    }
+    write(text, waiting);
+    0
+}
+
+impl Session {
+    // The text that waited is written.
+    pub(crate) fn written(mut self) -> Session {
+        self.waiting = 0;
         self
     }
 
     // The line at hand ends: it is answered, and the next begins.
-    fn end_line(mut self, memory: &mut [u8], line: &[u8], text: &mut [u8]) -> Console {
-        self.lines = std::num::wrapping_add_u64(self.lines, 1);
-        let whole = memory::part(line, 0, self.kept);
-        self.kept = 0;
-        if silent(whole) {
-            return self;
+    fn end_line(self, memory: &mut [u8], line: &[u8], text: &mut [u8]) -> Session {
+        let console = self.console;
+        let at = make_room(text, self.waiting);
+        let told = console::answer(console, memory, memory::part(line, 0, self.kept), text, at);
+        let next = told.console;
+        Session {
+            console: next,
+            kept: 0,
+            waiting: told.end,
         }
-        let call = calls::call_of(whole);
-        self.make(call, memory, whole, text)
     }
 
     // Takes a chunk's characters from `from` on, up to the end of a line or of the chunk.
     fn take_part(
-        self,
+        mut self,
         memory: &mut [u8],
         line: &mut [u8],
         text: &mut [u8],
@@ -60,13 +70,16 @@ impl Console {
         ensures { λ r. ⌜ (from < r .to) × (r .to ≤ length (now (chunk .entry))) ⌝ }
     {
         let end = bytes::scan::find(chunk, from, chunk.len(), b'\n');
-        let console = self.keep(line, &chunk[from..end]);
+        self.kept = keep(line, self.kept, &chunk[from..end]);
         if end == chunk.len() {
-            return Taken { console, to: end };
+            return Taken {
+                session: self,
+                to: end,
+            };
         }
         let to = end + 1;
         Taken {
-            console: console.end_line(memory, line, text),
+            session: self.end_line(memory, line, text),
             to,
         }
     }
@@ -78,24 +91,22 @@ impl Console {
         line: &mut [u8],
         text: &mut [u8],
         chunk: &[u8],
-    ) -> Console {
-        let mut console = self;
+    ) -> Session {
+        let mut session = self;
         let mut i = 0;
         while i < chunk.len() {
-            let taken = console.take_part(memory, line, text, chunk, i);
-            console = taken.console;
+            let taken = session.take_part(memory, line, text, chunk, i);
+            session = taken.session;
             i = taken.to;
         }
-        console
+        session
     }
 
     // The input has ended. A last line without a line feed counts.
-    pub(crate) fn end(self, memory: &mut [u8], line: &[u8], text: &mut [u8]) {
+    pub(crate) fn end(self, memory: &mut [u8], line: &[u8], text: &mut [u8]) -> Session {
         if self.kept == 0 {
-            output::flush(text, self.waiting);
-            return;
+            return self;
         }
-        let console = self.end_line(memory, line, text);
-        output::flush(text, console.waiting);
+        self.end_line(memory, line, text)
     }
 }

@@ -1,22 +1,34 @@
--- The ways out of `buffer_fault`, from what its calls ensure. Assumes nothing.
+-- What each function answers, from what its calls ensure. Assumes nothing.
 use mathlib.Core.Path.{_≡_}
-use mathlib.Core.Bool.{Bool, true, false, not}
-use Prim.Native.Nat.{ℕ, _≤_, _<_}
-use borrow.Author.Tests.{lt-ltb, le-ltb}
-use Rattle.rules.proofs.Choices.{said-yes, said-no}
-use Rattle.descriptor.specs.Window.{aligned}
-use Rattle.descriptor.specs.Buffer.{bytesFault, bufferFault}
+use mathlib.Core.Bool.{Bool}
+use mathlib.Core.List.{List}
+use Prim.Native.Nat.{ℕ, _+_, _/_, _%_}
+use lib.Dec.{eqb}
+use Rattle.memory.specs.Memory.{word}
+use Rattle.address.specs.Address.{aligned, placeOf}
+use Rattle.window.specs.Window.{offset}
+use Rattle.descriptor.specs.Descriptor.{count, nextEnabled, start, nextWord, next}
 
-module _ (base window d from room n : ℕ) (a : Bool) (e : a ≡ aligned from) where
-  pub fault-low-bit : not a ≡ true → true ≡ bufferFault base window d from room n
-  unfolding bufferFault
-  fault-low-bit h = rw (said-no (aligned from) a e h)
+module _ (base : ℕ) (m : List ℕ) (d a : ℕ) (at : a ≡ offset base d) where
+  pub count-is : (w : ℕ) → w ≡ word m a → w % 4096 ≡ count base m d
+  unfolding count
+  count-is w e = rw (e, at)
 
-  module _ (h : not a ≡ false) (k : ℕ) (c : k ≡ room) where
-    pub fault-room : k < n → true ≡ bufferFault base window d from room n
-    unfolding bufferFault
-    fault-room l = rw (said-yes (aligned from) a e h, ← c, lt-ltb k n l)
+  pub linked-is : (w : ℕ) → w ≡ word m a → eqb (w / 0x4000 % 2) 1 ≡ nextEnabled base m d
+  unfolding nextEnabled
+  linked-is w e = rw (e, at)
 
-    pub fault-bytes : (s : ℕ) (r : Bool) → n ≤ k → s ≡ from → r ≡ bytesFault base window d s n → r ≡ bufferFault base window d from room n
-    unfolding bufferFault
-    fault-bytes s r l q t = rw (said-yes (aligned from) a e h, ← c, le-ltb k n l, ← q) t
+  pub start-is : (w : ℕ) → w ≡ word m (a + 4) → w ≡ start base m d
+  unfolding start
+  start-is w e = rw (e, at)
+
+  pub next-word-is : (w : ℕ) → w ≡ word m (a + 8) → w ≡ nextWord base m d
+  unfolding nextWord
+  next-word-is w e = rw (e, at)
+
+pub start-aligned-is : (base : ℕ) (m : List ℕ) (d s : ℕ) (r : Bool) → s ≡ start base m d → r ≡ aligned s → r ≡ aligned (start base m d)
+start-aligned-is base m d s r es e = rw es at e
+
+pub next-is : (base : ℕ) (m : List ℕ) (d w p : ℕ) → w ≡ nextWord base m d → p ≡ placeOf w → p ≡ next base m d
+unfolding next
+next-is base m d w p ew e = rw ew at e

@@ -27,7 +27,10 @@ bit (suc (suc n)) h = absurd (omega arith)
 bits-assoc : (a b c : ℕ) → a < 2 → b < 2 → c < 2 → bitXor (bitXor a b) c ≡ bitXor a (bitXor b c)
 bits-assoc a b c ha hb hc =
     ⊎-elim (λ (p : a ≡ 0). rw p)
-    (λ (p : a ≡ 1). ⊎-elim (λ (q : b ≡ 0). rw (p, q)) (λ (q : b ≡ 1). ⊎-elim (λ (s : c ≡ 0). rw (p, q, s)) (λ (s : c ≡ 1). rw (p, q, s)) (bit c hc)) (bit b hb))
+    (λ (p : a ≡ 1).
+    ⊎-elim (λ (q : b ≡ 0). rw (p, q))
+    (λ (q : b ≡ 1). ⊎-elim (λ (s : c ≡ 0). rw (p, q, s)) (λ (s : c ≡ 1). rw (p, q, s)) (bit c hc))
+    (bit b hb))
     (bit a ha)
 
 -- a number is half of it and its low bit

@@ -3,6 +3,7 @@
 // recursion has room at its greatest depth.
 use enet::Enet;
 use libc::STDOUT_FILENO;
+use registers::Registers;
 
 // Descriptor k: 14 bytes, next-enable, granted. Its buffer and its next descriptor are the one behind it.
 fn put_descriptor(m: &mut [u8], k: u32) {
@@ -11,7 +12,7 @@ fn put_descriptor(m: &mut [u8], k: u32) {
     memory::store_word(m, at as usize, 0x0000_400e);
     memory::store_word(m, at as usize + 4, next);
     memory::store_word(m, at as usize + 8, next);
-    memory::store_word(m, at as usize + 12, Enet::VALID);
+    memory::store_word(m, at as usize + 12, packet_status::VALID);
 }
 
 fn put_descriptors(m: &mut [u8]) {
@@ -24,7 +25,7 @@ fn put_descriptors(m: &mut [u8]) {
 fn sender() -> Enet {
     let made = Enet::new(0, 65536);
     let bench = made.device;
-    let started = bench.write(Enet::TXSTR, 5);
+    let started = bench.write(Registers::TXSTR, 5);
     started.device
 }
 

@@ -65,10 +65,9 @@ module _ (m : List ℕ) (at : ℕ) (s : List ℕ) where
   pub part-back : at + length s ≤ length m → take (length s) (drop at (store m at s)) ≡ s
   part-back fits =
       let same : length (take (length s) (drop at (store m at s))) ≡ length s = simp (length-take, length-drop, length-store) (omega arith) in
-      ext-getD 0 _ _ same
+      ext-getD 0 (take (length s) (drop at (store m at s))) s same
       (λ k l.
-      let l2 : k < length s = omega arith in
-      rw (getD-take (length s) (drop at (store m at s)) k 0, getD-drop at (store m at s) k 0) (byte-back k l2 fits))
+      rw (getD-take (length s) (drop at (store m at s)) k 0 (omega arith), getD-drop at (store m at s) k 0) (byte-back k (omega arith) fits))
 
 -- a word of 32 bits reads back
 pub word-back : (m : List ℕ) (at v : ℕ) → v < 2 ^ 32 → at + 4 ≤ length m → word (storeWord m at v) at ≡ v
@@ -80,3 +79,10 @@ word-back m at v small fits =
     let b3 : getD (storeWord m at v) (at + 3) 0 ≡ v / 256 / 256 / 256 % 256 = byte-back m at (wordBytes v) 3 (omega arith) fits in
     let c0 : getD (storeWord m at v) at 0 ≡ v % 256 = rw add-zero at b0 in
     rw (c0, b1, b2, b3) (omega arith)
+
+-- a word of the same four bytes
+pub word-same : (m n : List ℕ) (at : ℕ) → ((i : ℕ) → i < 4 → getD n (at + i) 0 ≡ getD m (at + i) 0) → word n at ≡ word m at
+unfolding word
+word-same m n at h =
+    let h0 : getD n at 0 ≡ getD m at 0 = rw add-zero at (h 0 (omega arith)) in
+    rw (h0, h 1 (omega arith), h 2 (omega arith), h 3 (omega arith))

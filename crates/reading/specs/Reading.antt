@@ -6,8 +6,10 @@ use mathlib.Core.List.{List, []}
 use lib.Dec.{eqb}
 use lib.ListN.{take, drop}
 use Rattle.rules.specs.Choice.{if_then_else_}
-use Rattle.descriptor.specs.Window.{lent, offset, inWindow, aligned}
-use Rattle.descriptor.specs.Descriptor.{start, granted, frameLength}
+use Rattle.window.specs.Window.{lent, offset, inWindow}
+use Rattle.address.specs.Address.{aligned}
+use Rattle.descriptor.specs.Descriptor.{start}
+use Rattle.packet_status.specs.PacketStatus.{granted, frameLength}
 use Rattle.frame.specs.Length.{lengthAllowed}
 
 -- "It is shown exactly if the descriptor lies in the window at a multiple of 4, is returned for receiving, its start word

@@ -1,15 +1,101 @@
--- The turns of the two recursions: none left, a test that fails, and the rest. Assumes nothing.
+-- The ways out of the functions of this crate: one law for each, named by its fact, with the premises that the code has there. Assumes nothing.
 use mathlib.Core.Path.{_≡_, refl}
 use mathlib.Core.Bool.{Bool, true, false, not, _&&_}
 use mathlib.Core.List.{List}
-use Prim.Native.Nat.{ℕ, zero, suc, _-_}
+use Prim.Native.Nat.{ℕ, zero, suc, _-_, _≤_, _<_}
 use native.Mathlib.Omega.{arith}
-use lib.Dec.{eqb}
-use Rattle.rules.proofs.Choices.{said-yes, said-no}
-use Rattle.descriptor.specs.Descriptor.{next}
-use Rattle.ring.specs.Ring.{soundDescriptor, regionsApart, apartFromRest, ringFrom}
+use borrow.Author.Tests.{le-leb, lt-leb}
+use lib.Dec.{eqb, leb}
+use Rattle.rules.proofs.Choices.{said-yes, said-no, and-yes, and-no, and-last, is-and, is-and-no, is-and-last}
+use Rattle.window.specs.Window.{lent, inWindow}
+use Rattle.address.specs.Address.{apart, aligned}
+use Rattle.descriptor.specs.Descriptor.{count, nextEnabled, start, next}
+use Rattle.ring.specs.Ring.{soundDescriptor, regionsApart, apartFromRest, ringFrom, soundRing}
 
--- the two definitions at a number left that is not 0, as the code counts
+-- ---- sound_descriptor: which of its tests fails, and the facts that led past those before it
+
+module _ (base window : ℕ) (m : List ℕ) (d : ℕ) (i : Bool) (ei : i ≡ inWindow base window d 16) where
+  pub descriptor-outside : not i ≡ true → false ≡ soundDescriptor base window m d
+  unfolding soundDescriptor
+  descriptor-outside h = is-and-no _ _ (and-no _ _ (and-no _ _ (and-no _ _ (said-no (inWindow base window d 16) i ei h))))
+
+  module _ (n : Bool) (yi : not i ≡ false) (en : n ≡ nextEnabled base m d) where
+    inside : inWindow base window d 16 ≡ true
+    inside = said-yes (inWindow base window d 16) i ei yi
+
+    pub next-disabled : not n ≡ true → false ≡ soundDescriptor base window m d
+    unfolding soundDescriptor
+    next-disabled h = is-and-no _ _ (and-no _ _ (and-no _ _ (and-last _ _ inside (said-no (nextEnabled base m d) n en h))))
+
+    module _ (k : ℕ) (yn : not n ≡ false) (ek : k ≡ count base m d) where
+      enabled : (inWindow base window d 16 && nextEnabled base m d) ≡ true
+      enabled = and-yes _ _ inside (said-yes (nextEnabled base m d) n en yn)
+
+      pub count-under-1518 : k < 1518 → false ≡ soundDescriptor base window m d
+      unfolding soundDescriptor
+      count-under-1518 h = is-and-no _ _ (and-no _ _ (and-last _ _ enabled (lt-leb 1518 (count base m d) (rw ek at h))))
+
+      module _ (a : Bool) (long : 1518 ≤ k) (ea : a ≡ aligned (start base m d)) where
+        roomy : (inWindow base window d 16 && nextEnabled base m d && leb 1518 (count base m d)) ≡ true
+        roomy = and-yes _ _ enabled (le-leb 1518 (count base m d) (rw ek at long))
+
+        pub start-misaligned : not a ≡ true → false ≡ soundDescriptor base window m d
+        unfolding soundDescriptor
+        start-misaligned h = is-and-no _ _ (and-last _ _ roomy (said-no (aligned (start base m d)) a ea h))
+
+        module _ (s : ℕ) (w : Bool) (ya : not a ≡ false) (es : s ≡ start base m d) (ew : w ≡ inWindow base window s k) where
+          placed : (inWindow base window d 16 && nextEnabled base m d && leb 1518 (count base m d) && aligned (start base m d)) ≡ true
+          placed = and-yes _ _ roomy (said-yes (aligned (start base m d)) a ea ya)
+
+          within : w ≡ inWindow base window (start base m d) (count base m d)
+          within = rw (es, ek) at ew
+
+          pub buffer-outside : not w ≡ true → false ≡ soundDescriptor base window m d
+          unfolding soundDescriptor
+          buffer-outside h = is-and-last _ _ placed (and-no _ _ (said-no (inWindow base window (start base m d) (count base m d)) w within h))
+
+          pub by-own-regions : (r : Bool) → not w ≡ false → r ≡ apart s k d 16 → r ≡ soundDescriptor base window m d
+          unfolding soundDescriptor
+          by-own-regions r yw e =
+              is-and _ _ _ placed (
+              is-and _ _ _ (said-yes (inWindow base window (start base m d) (count base m d)) w within yw) (rw (es, ek) at e))
+
+-- ---- regions_apart
+
+module _ (base : ℕ) (m : List ℕ) (d e : ℕ) (p : Bool) (ep : p ≡ apart d 16 e 16) where
+  pub descriptors-share : not p ≡ true → false ≡ regionsApart base m d e
+  unfolding regionsApart
+  descriptors-share h = is-and-no _ _ (and-no _ _ (said-no (apart d 16 e 16) p ep h))
+
+  module _ (t l : ℕ) (q : Bool) (yp : not p ≡ false) (et : t ≡ start base m e) (el : l ≡ count base m e) (eq : q ≡ apart d 16 t l) where
+    clear : q ≡ apart d 16 (start base m e) (count base m e)
+    clear = rw (et, el) at eq
+
+    pub descriptor-in-buffer : not q ≡ true → false ≡ regionsApart base m d e
+    unfolding regionsApart
+    descriptor-in-buffer h =
+        is-and-no _ _ (and-last _ _ (said-yes (apart d 16 e 16) p ep yp) (said-no (apart d 16 (start base m e) (count base m e)) q clear h))
+
+    module _ (s k : ℕ) (r : Bool) (yq : not q ≡ false) (es : s ≡ start base m d) (ek : k ≡ count base m d) (er : r ≡ apart s k e 16) where
+      descriptor-clear : (apart d 16 e 16 && apart d 16 (start base m e) (count base m e)) ≡ true
+      descriptor-clear = and-yes _ _ (said-yes (apart d 16 e 16) p ep yp) (said-yes (apart d 16 (start base m e) (count base m e)) q clear yq)
+
+      buffer-clear : r ≡ apart (start base m d) (count base m d) e 16
+      buffer-clear = rw (es, ek) at er
+
+      pub buffer-over-descriptor : not r ≡ true → false ≡ regionsApart base m d e
+      unfolding regionsApart
+      buffer-over-descriptor h =
+          is-and-last _ _ descriptor-clear (and-no _ _ (said-no (apart (start base m d) (count base m d) e 16) r buffer-clear h))
+
+      pub by-buffers : (x : Bool) → not r ≡ false → x ≡ apart s k t l → x ≡ regionsApart base m d e
+      unfolding regionsApart
+      by-buffers x yr ex =
+          is-and _ _ _ descriptor-clear (
+          is-and _ _ _ (said-yes (apart (start base m d) (count base m d) e 16) r buffer-clear yr) (rw (es, ek, et, el) at ex))
+
+-- ---- the two recursive definitions at a number left that is not 0, as the code counts
+
 rest-more : (base : ℕ) (m : List ℕ) (d left e : ℕ) → (left ≡ 0 → ⊥)
     → (regionsApart base m d e && apartFromRest base m d (left - 1) (next base m e)) ≡ apartFromRest base m d left e
 unfolding apartFromRest
@@ -70,3 +156,35 @@ ring-on base window m first left d e r t x h p s q u v f =
       ← q,
       said-yes (apartFromRest base m d (left - 1) e) t u v,
     ) f
+
+-- ---- sound_ring
+
+module _ (base window : ℕ) (m : List ℕ) (number first : ℕ) (l : Bool) (el : l ≡ lent window m) where
+  pub other-length : not l ≡ true → false ≡ soundRing base window m number first
+  unfolding soundRing
+  other-length h = is-and-no _ _ (and-no _ _ (and-no _ _ (and-no _ _ (said-no (lent window m) l el h))))
+
+  module _ (yl : not l ≡ false) where
+    whole : lent window m ≡ true
+    whole = said-yes (lent window m) l el yl
+
+    pub number-0 : number < 1 → false ≡ soundRing base window m number first
+    unfolding soundRing
+    number-0 h = is-and-no _ _ (and-no _ _ (and-no _ _ (and-last _ _ whole (lt-leb 1 number h))))
+
+    pub number-over-32 : 1 ≤ number → 32 < number → false ≡ soundRing base window m number first
+    unfolding soundRing
+    number-over-32 some h =
+        is-and-no _ _ (and-no _ _ (and-last _ _ (and-yes _ _ whole (le-leb 1 number some)) (lt-leb number 32 h)))
+
+    module _ (a : Bool) (some : 1 ≤ number) (few : number ≤ 32) (ea : a ≡ aligned first) where
+      counted : (lent window m && leb 1 number && leb number 32) ≡ true
+      counted = and-yes _ _ (and-yes _ _ whole (le-leb 1 number some)) (le-leb number 32 few)
+
+      pub first-misaligned : not a ≡ true → false ≡ soundRing base window m number first
+      unfolding soundRing
+      first-misaligned h = is-and-no _ _ (and-last _ _ counted (said-no (aligned first) a ea h))
+
+      pub by-ring : (r : Bool) → not a ≡ false → r ≡ ringFrom base window m first number first → r ≡ soundRing base window m number first
+      unfolding soundRing
+      by-ring r ya e = is-and _ _ _ (and-yes _ _ counted (said-yes (aligned first) a ea ya)) e

@@ -3,7 +3,8 @@ use Prim.Native.Nat.{ℕ, zero, suc}
 use mathlib.Core.Bool.{Bool, true, _&&_}
 use mathlib.Core.List.{List}
 use lib.Dec.{eqb, leb}
-use Rattle.descriptor.specs.Window.{lent, inWindow, apart, aligned}
+use Rattle.window.specs.Window.{lent, inWindow}
+use Rattle.address.specs.Address.{apart, aligned}
 use Rattle.descriptor.specs.Descriptor.{count, nextEnabled, start, next}
 
 -- "every one has next-enable and a count of at least 1,518; its start word has clear low bits; descriptors and buffers (the

@@ -1,107 +1,49 @@
 // The ring check: whether following the next words gives a sound ring of descriptors.
 ghost use mathlib.Core.Path.{_≡_};
-ghost use lib.Dec.{leb};
-ghost use Rattle.descriptor.specs.Window.{inWindow, apart};
-ghost use Rattle.descriptor.specs.Descriptor.{count, start};
 ghost use Rattle.ring.specs.Ring.{soundDescriptor, regionsApart, apartFromRest, ringFrom, soundRing};
-
-// The count is at least 1,518.
-fn room_enough(base: u32, m: &[u8], d: u32) -> bool
-    ensures { λ r. ⌜ r ≡ leb 1518 (count base (now (m .entry)) d) ⌝ }
-{
-    1518 <= descriptor::count(base, m, d)
-}
-
-// The buffer lies in the window.
-fn buffer_in_window(base: u32, window: u32, m: &[u8], d: u32) -> bool
-    ensures { λ r. ⌜ r ≡ inWindow base window (start base (now (m .entry)) d) (count base (now (m .entry)) d) ⌝ }
-{
-    descriptor::in_window(
-        base,
-        window,
-        descriptor::start(base, m, d),
-        descriptor::count(base, m, d),
-    )
-}
-
-// The buffer of d shares no byte with the descriptor e.
-fn buffer_apart(base: u32, m: &[u8], d: u32, e: u32) -> bool
-    ensures { λ r. ⌜ r ≡ apart (start base (now (m .entry)) d) (count base (now (m .entry)) d) e 16 ⌝ }
-{
-    descriptor::apart(
-        descriptor::start(base, m, d),
-        descriptor::count(base, m, d),
-        e,
-        16,
-    )
-}
-
-// The descriptor d shares no byte with the buffer of e.
-fn descriptor_apart(base: u32, m: &[u8], d: u32, e: u32) -> bool
-    ensures { λ r. ⌜ r ≡ apart d 16 (start base (now (m .entry)) e) (count base (now (m .entry)) e) ⌝ }
-{
-    descriptor::apart(
-        d,
-        16,
-        descriptor::start(base, m, e),
-        descriptor::count(base, m, e),
-    )
-}
-
-// The buffers of d and e share no byte.
-fn buffers_apart(base: u32, m: &[u8], d: u32, e: u32) -> bool
-    ensures { λ r. ⌜ r ≡ apart (start base (now (m .entry)) d) (count base (now (m .entry)) d) (start base (now (m .entry)) e) (count base (now (m .entry)) e) ⌝ }
-{
-    descriptor::apart(
-        descriptor::start(base, m, d),
-        descriptor::count(base, m, d),
-        descriptor::start(base, m, e),
-        descriptor::count(base, m, e),
-    )
-}
 
 // A descriptor of a sound ring, by itself.
 fn sound_descriptor(base: u32, window: u32, m: &[u8], d: u32) -> bool
     ensures { λ r. ⌜ r ≡ soundDescriptor base window (now (m .entry)) d ⌝ }
 {
-    if !descriptor::in_window(base, window, d, 16) {
+    if !window::in_window(base, window, d, 16) {
         return false;
     }
     if !descriptor::next_enabled(base, m, d) {
         return false;
     }
-    if !room_enough(base, m, d) {
+    let count = descriptor::count(base, m, d);
+    if count < 1518 {
         return false;
     }
     if !descriptor::start_aligned(base, m, d) {
         return false;
     }
-    if !buffer_in_window(base, window, m, d) {
+    let start = descriptor::start(base, m, d);
+    if !window::in_window(base, window, start, count) {
         return false;
     }
-    if !buffer_apart(base, m, d, d) {
-        return false;
-    }
-    true
+    address::apart(start, count, d, 16)
 }
 
 // The regions of two descriptors share no byte.
 fn regions_apart(base: u32, m: &[u8], d: u32, e: u32) -> bool
     ensures { λ r. ⌜ r ≡ regionsApart base (now (m .entry)) d e ⌝ }
 {
-    if !descriptor::apart(d, 16, e, 16) {
+    if !address::apart(d, 16, e, 16) {
         return false;
     }
-    if !descriptor_apart(base, m, d, e) {
+    let other = descriptor::start(base, m, e);
+    let other_count = descriptor::count(base, m, e);
+    if !address::apart(d, 16, other, other_count) {
         return false;
     }
-    if !buffer_apart(base, m, d, e) {
+    let start = descriptor::start(base, m, d);
+    let count = descriptor::count(base, m, d);
+    if !address::apart(start, count, e, 16) {
         return false;
     }
-    if !buffers_apart(base, m, d, e) {
-        return false;
-    }
-    true
+    address::apart(start, count, other, other_count)
 }
 
 // The regions of d and those of the descriptors left, from e on, share no byte.
@@ -138,7 +80,7 @@ fn ring_from(base: u32, window: u32, m: &[u8], first: u32, left: u32, d: u32) ->
 pub fn sound_ring(base: u32, window: u32, m: &[u8], number: u32, first: u32) -> bool
     ensures { λ r. ⌜ r ≡ soundRing base window (now (m .entry)) number first ⌝ }
 {
-    if !descriptor::lent(window, m) {
+    if !window::lent(window, m) {
         return false;
     }
     if number < 1 {
@@ -147,11 +89,8 @@ pub fn sound_ring(base: u32, window: u32, m: &[u8], number: u32, first: u32) -> 
     if 32 < number {
         return false;
     }
-    if !descriptor::aligned(first) {
+    if !address::aligned(first) {
         return false;
     }
-    if !ring_from(base, window, m, first, number, first) {
-        return false;
-    }
-    true
+    ring_from(base, window, m, first, number, first)
 }

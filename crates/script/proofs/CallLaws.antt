@@ -7,12 +7,12 @@ use borrow.Author.Tests.{lt-ltb, le-ltb}
 use lib.ListN.{length}
 use Rattle.rules.specs.Choice.{if_then_else_}
 use Rattle.rules.proofs.Choices.{said-not}
-use Rattle.script.specs.declared.numbers.Number.{Number}
-use Rattle.script.specs.declared.numbers.Number.the-variants.{Is, Wrong}
-use Rattle.script.specs.declared.calls.Command.{Command}
-use Rattle.script.specs.declared.calls.Call.{Call}
+use Rattle.forms.specs.declared.numbers.Number.{Number}
+use Rattle.forms.specs.declared.numbers.Number.the-variants.{Is, Wrong}
+use Rattle.script.specs.declared.Command.{Command}
+use Rattle.script.specs.declared.Call.{Call}
 use Rattle.script.specs.Calls.{noCall, given, alone, withOne, withTwo, callOf}
-use Rattle.script.specs.Words.{spaced, first, rest}
+use Rattle.words.specs.Words.{spaced, first, rest}
 
 -- ---- a command with its numbers
 

@@ -1,4 +1,1 @@
 pub mod CallLaws
-pub mod NumberLaws
-pub mod PairLaws
-pub mod WordLaws

@@ -5,10 +5,10 @@ use mathlib.Core.List.{List}
 use lib.Dec.{ltb}
 use lib.ListN.{length}
 use Rattle.rules.specs.Choice.{if_then_else_}
-use Rattle.script.specs.declared.numbers.Number.{Number}
-use Rattle.script.specs.declared.numbers.Number.the-variants.{Is, Wrong}
-use Rattle.script.specs.declared.calls.Command.{Command}
-use Rattle.script.specs.declared.calls.Command.the-variants.{
+use Rattle.forms.specs.declared.numbers.Number.{Number}
+use Rattle.forms.specs.declared.numbers.Number.the-variants.{Is, Wrong}
+use Rattle.script.specs.declared.Command.{Command}
+use Rattle.script.specs.declared.Command.the-variants.{
   New,
   Lend,
   Read,
@@ -26,10 +26,10 @@ use Rattle.script.specs.declared.calls.Command.the-variants.{
   State,
   Error,
 }
-use Rattle.script.specs.declared.calls.Call.{Call}
-use Rattle.script.specs.Numbers.{hexadecimal, decimal}
-use Rattle.script.specs.Pairs.{byteCount}
-use Rattle.script.specs.Words.{characters, is, spaced, first, rest}
+use Rattle.script.specs.declared.Call.{Call}
+use Rattle.forms.specs.Numbers.{hexadecimal, decimal}
+use Rattle.forms.specs.Pairs.{byteCount}
+use Rattle.words.specs.Words.{characters, is, spaced, first, rest}
 
 -- a line that is no call
 abbrev pub noCall : Call

@@ -3,14 +3,13 @@ use mathlib.Core.Path.{_≡_, refl}
 use mathlib.Core.List.{List}
 use Prim.Native.Nat.{ℕ, zero, suc, _+_, _-_, _≤_, _<_}
 use native.Mathlib.Omega.{arith}
-use Rattle.descriptor.specs.Descriptor.{withPacketStatus}
+use Rattle.packet_status.specs.PacketStatus.{withPacketStatus, grantedStatus}
 use Rattle.enet.specs.declared.Enet.{Enet}
 use Rattle.enet.specs.declared.Answered.{Answered}
 use Rattle.enet.specs.declared.Sent.{Sent}
-use Rattle.enet.specs.Device.{outcome}
-use Rattle.enet.specs.Registers.{new, write}
-use Rattle.enet.specs.Grant.{grant, grantedStatus}
-use Rattle.enet.specs.Receive.{receive}
+use Rattle.enet.specs.Device.{outcome, new}
+use Rattle.enet.specs.Access.{write}
+use Rattle.enet.specs.Frames.{grant, receive}
 use Rattle.enet.specs.Send.{sending, send}
 use Rattle.speed.specs.Rounds.{bench, passed, received, receiveRound, receiveRounds, transmitted, sendRound, sendRounds}
 

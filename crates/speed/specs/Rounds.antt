@@ -4,12 +4,11 @@ use mathlib.Core.List.{List}
 use lib.Dec.{eqb}
 use lib.ListN.{length}
 use Rattle.rules.specs.Choice.{if_then_else_}
-use Rattle.descriptor.specs.Descriptor.{withPacketStatus}
+use Rattle.packet_status.specs.PacketStatus.{withPacketStatus, grantedStatus}
 use Rattle.enet.specs.declared.Enet.{Enet}
-use Rattle.enet.specs.Device.{Outcome}
-use Rattle.enet.specs.Registers.{new, write}
-use Rattle.enet.specs.Grant.{grant, grantedStatus}
-use Rattle.enet.specs.Receive.{receive}
+use Rattle.enet.specs.Device.{Outcome, new}
+use Rattle.enet.specs.Access.{write}
+use Rattle.enet.specs.Frames.{grant, receive}
 use Rattle.enet.specs.Send.{Sending, send}
 
 -- a bench over a window at address 0: MAC address high and low for station 02-00-00-00-00-01, and both engines started, at

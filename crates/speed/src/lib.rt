@@ -8,16 +8,17 @@ ghost use Rattle.speed.specs.Rounds.{bench, windowOf, passed, received, 
 use enet::Answered;
 use enet::Enet;
 use enet::Sent;
+use registers::Registers;
 
 // A bench whose engines both start at address 0.
 fn bench(window: u32) -> Enet
     ensures { λ r. ⌜ r ≡ bench window ⌝ }
 {
     let a = Enet::new(0, window).device;
-    let b = a.write(Enet::MAH, 0x100).device;
-    let c = b.write(Enet::MAL, 2).device;
-    let d = c.write(Enet::RXSTR, 5).device;
-    d.write(Enet::TXSTR, 5).device
+    let b = a.write(Registers::MAH, 0x100).device;
+    let c = b.write(Registers::MAL, 2).device;
+    let d = c.write(Registers::RXSTR, 5).device;
+    d.write(Registers::TXSTR, 5).device
 }
 
 // 1 for an answer 0. That it is at most 1 is said for the callers' sums.
@@ -56,7 +57,7 @@ pub extern "C" fn speed_receive(memory: &mut [u8], frame: &[u8], rounds: u32) ->
 fn send_round(device: Enet, memory: &mut [u8], output: &mut [u8]) -> Sent
     ensures { λ r. ⌜ sending r (now (memory .exit)) (now (output .exit)) ≡ sendRound device (now (memory .entry)) (now (output .entry)) ⌝ }
 {
-    descriptor::set_packet_status(0, memory, 0, Enet::VALID);
+    packet_status::set_packet_status(0, memory, 0, packet_status::VALID);
     device.send(memory, output)
 }
 

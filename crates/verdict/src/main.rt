@@ -1,6 +1,8 @@
 // Reads one raw frame from standard input, at most 1,519 bytes, and writes how many bytes it took
 // and the first of the refusals 4, 5 and 6 that the frame meets, or 0.
 
+use frame::Filter;
+
 // Receive-all and all-multicast off.
 const CONTROL: u32 = 0;
 
@@ -19,7 +21,12 @@ fn main() {
     // One byte more than the longest frame, so that a longer input is seen to be too long.
     let mut input = [0u8; 1519];
     let n = io::read_full(0, &mut input);
-    let number = frame::frame_number(CONTROL, STATION_HIGH, STATION_LOW, &input[..n]);
+    let filter = Filter {
+        mcr: CONTROL,
+        mah: STATION_HIGH,
+        mal: STATION_LOW,
+    };
+    let number = frame::frame_number(filter, &input[..n]);
     write_line(b"length ", n as u64);
     write_line(b"verdict ", number as u64);
 }

@@ -2,36 +2,72 @@
 use mathlib.Core.Path.{_≡_, refl, sym, ap, _∙_}
 use mathlib.Core.Bool.{Bool, true, false, not}
 use mathlib.Core.List.{List, [], _∷_, _++_}
-use Prim.Native.Nat.{ℕ, zero, suc, _+_, _-_, _≤_}
+use Prim.Native.Nat.{ℕ, zero, suc, _+_, _-_, _≤_, _<_}
 use native.Mathlib.Nat.{add-zero, zero-add}
 use native.Mathlib.Omega.{arith}
-use borrow.Author.Tests.{leb-true, le-leb}
-use lib.Dec.{leb}
+use borrow.Author.Tests.{leb-true, lt-ltb, le-ltb, le-leb, lt-leb}
+use lib.Dec.{leb, ltb}
 use lib.ListN.{length, take, drop, set, replicate, length-append, length-replicate}
 use lib.Seq.{sets, sets-eq, take-at}
-use Rattle.rules.proofs.Choices.{said-yes, said-no, and-parts}
+use Rattle.rules.proofs.Choices.{said-yes, said-no, and-parts, is-and, is-and-no, is-or, is-or-yes}
 use Rattle.memory.specs.Memory.{store}
 use Rattle.memory.proofs.Stores.{length-store}
 use Rattle.fcs.specs.CheckSequence.{checkSequence, closed}
 use Rattle.fcs.proofs.Meaning.{length-sequence}
-use Rattle.wire.specs.Wire.{padded, wire, wireFits, wirePut, wireCount}
+use Rattle.wire.specs.Wire.{sendLengthWrong, padded, wire, wireFits, wirePut, wireCount}
+
+-- ---- send_length_wrong
+
+pub under-14 : (n : ℕ) → n < 14 → true ≡ sendLengthWrong n
+unfolding sendLengthWrong
+under-14 n h = is-or-yes (ltb n 14) (ltb 1514 n) (lt-ltb n 14 h)
+
+pub from-14 : (n : ℕ) → 14 ≤ n → ltb 1514 n ≡ sendLengthWrong n
+unfolding sendLengthWrong
+from-14 n h = is-or (ltb n 14) (ltb 1514 n) (ltb 1514 n) (le-ltb n 14 h) refl
+
+-- ---- wire_fits
+
+pub over-1514 : (out p : List ℕ) → 1514 < length p → false ≡ wireFits out p
+unfolding wireFits
+over-1514 out p h = is-and-no (leb (length p) 1514) (leb 1518 (length out)) (lt-leb (length p) 1514 h)
+
+pub up-to-1514 : (out p : List ℕ) → length p ≤ 1514 → leb 1518 (length out) ≡ wireFits out p
+unfolding wireFits
+up-to-1514 out p h = is-and (leb (length p) 1514) (leb 1518 (length out)) (leb 1518 (length out)) (le-leb (length p) 1514 h) refl
 
 -- ---- lengths
 
+-- zeros up to 60 bytes, and the check sequence of the padded payload
+padded-is : (p : List ℕ) → padded p ≡ p ++ replicate (60 - length p) 0
+padded-is p = refl
+
+wire-is : (p : List ℕ) → wire p ≡ padded p ++ checkSequence (padded p)
+unfolding wire
+wire-is p = refl
+
 pub length-padded : (p : List ℕ) → length (padded p) ≡ length p + (60 - length p)
-length-padded p = length-append p (replicate (60 - length p) 0) ∙ ap (λ (n : ℕ). length p + n) (length-replicate (60 - length p) 0)
+length-padded p =
+    ap length (padded-is p)
+    ∙ length-append p (replicate (60 - length p) 0)
+    ∙ ap (λ (n : ℕ). length p + n) (length-replicate (60 - length p) 0)
 
 pub length-wire : (p : List ℕ) → length (wire p) ≡ length p + (60 - length p) + 4
-unfolding wire
 length-wire p =
-    length-append (padded p) (checkSequence (padded p))
+    ap length (wire-is p)
+    ∙ length-append (padded p) (checkSequence (padded p))
     ∙ rw (length-padded p, length-sequence (padded p))
+
+-- "puts 64 to 1,518 bytes": a payload of an allowed length
+pub wire-bounds : (p : List ℕ) → 14 ≤ length p → length p ≤ 1514 → (64 ≤ length (wire p)) × (length (wire p) ≤ 1518)
+wire-bounds p low high = rw (length-wire p) (omega arith, omega arith)
 
 -- ---- stores one behind the other
 
 sets-append : (s m : List ℕ) (at : ℕ) (t : List ℕ) → sets (sets m at s) (at + length s) t ≡ sets m at (s ++ t)
 sets-append [] m at t = rw add-zero
-sets-append (x ∷ s) m at t = let e : at + suc (length s) ≡ suc at + length s = omega arith in rw e (sets-append s (set m at x) (suc at) t)
+sets-append (x ∷ s) m at t =
+    let e : at + suc (length s) ≡ suc at + length s = omega arith in rw e (sets-append s (set m at x) (suc at) t)
 
 -- a store at the front and one right behind it are one
 front-append : (s m t : List ℕ) (n : ℕ) → n ≡ length s → store (store m 0 s) n t ≡ store m 0 (s ++ t)
@@ -64,7 +100,8 @@ zeros-part zero n h = refl
 zeros-part (suc k) zero h = absurd (omega arith)
 zeros-part (suc k) (suc n) h = ap {B = List ℕ} (λ l. 0 ∷ l) (zeros-part k n (omega arith))
 
-pub padding : (out o : List ℕ) (n : ℕ) → o ≡ store out n (take {A = ℕ} (60 - n) (replicate 60 0)) → o ≡ store out n (replicate (60 - n) 0)
+pub padding : (out o : List ℕ) (n : ℕ) → o ≡ store out n (take {A = ℕ} (60 - n) (replicate 60 0))
+    → o ≡ store out n (replicate (60 - n) 0)
 padding out o n e = e ∙ ap (store out n) (zeros-part (60 - n) 60 (omega arith))
 
 pub no-padding : (out : List ℕ) (n : ℕ) → 60 ≤ n → out ≡ store out n (replicate (60 - n) 0)
@@ -83,11 +120,8 @@ module _ (out p : List ℕ) (r : Bool) (e : r ≡ wireFits out p) (h : not r ≡
 -- what a yes of `wire_fits` says of the lengths
 fits-lengths : (out p : List ℕ) → wireFits out p ≡ true → (length p ≤ 1514) × (1518 ≤ length out)
 unfolding wireFits
-fits-lengths out p h = let t = and-parts (leb (length p) 1514) (leb 1518 (length out)) h in (leb-true _ _ (t .0), leb-true _ _ (t .1))
-
-wire-is : (p out : List ℕ) → store out 0 (padded p ++ checkSequence (padded p)) ≡ store out 0 (wire p)
-unfolding wire
-wire-is p out = refl
+fits-lengths out p h =
+    let t = and-parts (leb (length p) 1514) (leb 1518 (length out)) h in (leb-true _ _ (t .0), leb-true _ _ (t .1))
 
 pub all-counted : (out p : List ℕ) (r : Bool) (k : ℕ) → r ≡ wireFits out p → not r ≡ false → k ≡ length p + (60 - length p)
     → k + 4 ≡ wireCount out p
@@ -103,5 +137,6 @@ all-put out p r o₁ o₂ o₃ k e h e₁ e₂ ek e₃ =
     let f = fits-lengths out p y in
     let f₀ = f .0 in
     let f₁ = f .1 in
-    let a : o₂ ≡ store out 0 (padded p) = e₂ ∙ rw e₁ (front-append p out (replicate (60 - length p) 0) (length p) refl) in
-    rw (y, e₃, a) (close-front (padded p) out k (ek ∙ sym (length-padded p)) (omega arith) ∙ wire-is p out)
+    let z = replicate {A = ℕ} (60 - length p) 0 in
+    let a : o₂ ≡ store out 0 (padded p) = e₂ ∙ rw e₁ (front-append p out z (length p) refl) ∙ ap (store out 0) (sym (padded-is p)) in
+    rw (y, e₃, a) (close-front (padded p) out k (ek ∙ sym (length-padded p)) (omega arith) ∙ ap (store out 0) (sym (wire-is p)))

@@ -7,11 +7,11 @@ use Rattle.bench.proofs.take_all.Statement.{statement}
 use Rattle.bench.proofs.take_all.Tie as tie
 
 abbrev Inv-loop : tie.InvT-loop
-Inv-loop memory₀ line₀ text₀ console₀ turns₀ memory line text console turns =
+Inv-loop memory₀ line₀ text₀ session₀ turns₀ memory line text session turns =
     (length memory ≡ length memory₀) × ((length line ≡ length line₀) × (length text ≡ length text₀))
 
 abbrev μ-loop : tie.MeasureT-loop
-μ-loop memory₀ line₀ text₀ console₀ turns₀ memory line text console turns = turns
+μ-loop memory₀ line₀ text₀ session₀ turns₀ memory line text session turns = turns
 
 reset-requires : tie.Need-reset-requires Inv-loop μ-loop
 reset-requires c κs = search needs

@@ -6,8 +6,7 @@ use borrow.Author.Needs.{needs}
 use lib.ListN.{length, drop, length-set}
 use lib.Seq.{sets}
 use denote.Ref.{now}
-use Rattle.memory.specs.Memory.{store}
-use Rattle.memory.proofs.Laws.{sets-turn, sets-end, store-out}
+use Rattle.memory.proofs.Laws.{sets-turn, all-stored, store-out}
 use Rattle.memory.proofs.store.Statement.{statement}
 use Rattle.memory.proofs.store.Tie as tie
 
@@ -55,12 +54,7 @@ same-length : tie.Need-same-length Inv-loop μ-loop
 same-length c = search needs
 
 returns-2 : tie.Need-returns-2 Inv-loop μ-loop
-unfolding store
-returns-2 c =
-    let l = c .before .loop in
-    let a = c .before .before .before .before .before .before .args in
-    let n = c .before .before .least in
-    sym (sets-end (l .m) (now (a .s)) (a .at) (l .i) _ _ (l .inv .1 .0) (omega arith) (n .ensures .1 .1)) ∙ l .inv .1 .1
+returns-2 c = search all-stored
 
 pub store-spec : {M : Type 1} → statement M
 store-spec =

@@ -1,4 +1,4 @@
-use Rattle.memory.proofs.Laws.{store-word-is, store-out}
+use Rattle.memory.proofs.Laws.{word-stored, store-out}
 use borrow.Author.Needs.{needs}
 use Rattle.memory.proofs.store_word.Statement.{statement}
 use Rattle.memory.proofs.store_word.Tie as tie
@@ -20,4 +20,9 @@ store-word-spec =
     (λ c. search needs)
     (λ c κs. tt)
     (λ c. search needs)
-    (λ c. cc (store-word-is _ _ _)))
+    (λ c.
+    let s₄ = c .before .before in
+    let s₃ = s₄ .before .before .before .before in
+    let s₂ = s₃ .before .before .before .before in
+    let s₁ = s₂ .before .before .before .before in
+    word-stored _ _ _ _ _ _ _ (s₁ .store-byte .ensures) (s₂ .store-byte2 .ensures) (s₃ .store-byte3 .ensures) (s₄ .store-byte4 .ensures)))

@@ -37,7 +37,7 @@ pub +ring-from-spec : {M : Type 1} → statement M
 )
     (ring-from-at t)
     ring-from.Post
-    (λ c. search ring-none)
+    (λ c. ring-none _ _ _ _ _ _ (c .if1 .taken))
     (λ c κs. tt)
     (λ c. search ring-unsound)
     (λ c κs. tt)

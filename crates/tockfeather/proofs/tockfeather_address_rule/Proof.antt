@@ -1,6 +1,5 @@
 -- `tockfeather::tockfeather_address_rule` meets its contract. Assumes nothing.
-use borrow.Author.Needs.{needs}
-use Rattle.rules.proofs.Choices.{choices}
+use Rattle.tockfeather.proofs.Laws.{yes-1, no-0}
 use Rattle.tockfeather.proofs.tockfeather_address_rule.Statement.{statement}
 use Rattle.tockfeather.proofs.tockfeather_address_rule.Tie as tie
 
@@ -8,6 +7,6 @@ pub tockfeather-address-rule-spec : {M : Type 1} → statement M
 tockfeather-address-rule-spec =
     tie.close
     (tie.spec
-    (λ c κs. search needs)
-    (λ c. search choices)
-    (λ c. search choices))
+    (λ c κs. tt)
+    (λ c. yes-1 _ _ (c .before .accepts .ensures) (c .if1 .taken))
+    (λ c. no-0 _ _ (c .before .accepts .ensures) (c .if1 .left)))

@@ -1,6 +1,5 @@
 -- `tockfeather::tockfeather_frame_check` meets its contract. Assumes nothing.
-use borrow.Author.Needs.{needs}
-use Rattle.rules.proofs.Choices.{choices}
+use Rattle.tockfeather.proofs.Laws.{yes-1, no-0}
 use Rattle.tockfeather.proofs.tockfeather_frame_check.Statement.{statement}
 use Rattle.tockfeather.proofs.tockfeather_frame_check.Tie as tie
 
@@ -8,6 +7,6 @@ pub tockfeather-frame-check-spec : {M : Type 1} → statement M
 tockfeather-frame-check-spec =
     tie.close
     (tie.spec
-    (λ c κs. search needs)
-    (λ c. search choices)
-    (λ c. search choices))
+    (λ c κs. tt)
+    (λ c. yes-1 _ _ (c .before .check-right .ensures) (c .if1 .taken))
+    (λ c. no-0 _ _ (c .before .check-right .ensures) (c .if1 .left)))

@@ -14,5 +14,5 @@ pad-spec =
     (λ c. simp length-take (omega arith))
     (λ c κs. tt)
     (λ c. search needs)
-    (λ c. search padding)
+    (λ c. padding _ _ _ (c .before .before .store .ensures))
     (λ c. search no-padding))

@@ -1,0 +1,133 @@
+-- Which parts of the device a call leaves. Assumes nothing.
+use Prim.Native.Nat.{ℕ, zero, suc}
+use mathlib.Core.Path.{_≡_, refl, ap, _∙_}
+use mathlib.Core.Bool.{not}
+use mathlib.Core.List.{List}
+use lib.Dec.{eqb, ltb}
+use Rattle.rules.proofs.Choices.{by-test}
+use Rattle.descriptor.specs.Descriptor.{nextEnabled}
+use Rattle.engine.specs.declared.Engine.{Engine}
+use Rattle.enet.specs.declared.Enet.{Enet}
+use Rattle.registers.specs.declared.Register.{Register}
+use Rattle.registers.specs.declared.Register.the-variants.{Ier, Isr, RxStart, RxNext, TxStart, TxNext, Mcr, Mah, Mal, Unmodelled}
+use Rattle.enet.specs.Device.{withRegisters, withRx, withTx, raised, rxStopped, txStopped}
+use Rattle.engine.specs.Engine.{ledTo, stopped, dmaEnabled, startFetch, startWritten}
+use Rattle.receiving.specs.Receiving.{rxAdvanced}
+use Rattle.sending.specs.Sending.{txAdvanced}
+use Rattle.registers.specs.Registers.{rxCurrDone, rxDone, txCurrDone, txDone, packetLost}
+use Rattle.registers.specs.Access.{registerAt}
+use Rattle.register_write.specs.Write.{written}
+use Rattle.enet.specs.Frames.{receive}
+use Rattle.enet.specs.Send.{send}
+use Rattle.enet.specs.Run.{Running, sends, run}
+use Rattle.calls.specs.Calls.{Bench, registerWrite, call}
+use Rattle.changes.specs.Parts.{statusOf, registerOf, ReceiveOnly, SendOnly, PartsKept}
+use Rattle.enet.proofs.Ways.{by-receive, by-send}
+use Rattle.changes.proofs.Branches.{by-write}
+
+-- ---- register writes
+
+-- the same, of a register write that is refused
+register-same : (r : Register) (d : Enet) → d ≡ registerOf r d d
+register-same Ier d = refl
+register-same Isr d = refl
+register-same RxStart d = refl
+register-same RxNext d = refl
+register-same TxStart d = refl
+register-same TxNext d = refl
+register-same Mcr d = refl
+register-same Mah d = refl
+register-same Mal d = refl
+register-same Unmodelled d = refl
+
+start-next : (e : Engine) (v : ℕ) → startWritten e v .next ≡ e .next
+unfolding startWritten
+start-next e v =
+    by-test (λ (x : Engine). x .next ≡ e .next) (not (dmaEnabled v)) _ _ (λ _. refl) (λ _.
+    by-test (λ (x : Engine). x .next ≡ e .next) (e .running) _ _ (λ _. refl) (λ _.
+    by-test (λ (x : Engine). x .next ≡ e .next) (startFetch v) _ _ (λ _. refl) (λ _. refl)))
+
+-- the device with its registers written
+abbrev after : Enet → Register → ℕ → Enet
+after d r v = withRegisters d (written (d .registers) r v)
+
+register-written : (r : Register) (d : Enet) (v : ℕ) → after d r v ≡ registerOf r d (after d r v)
+register-written Ier d v = refl
+register-written Isr d v = refl
+register-written RxStart d v = rw start-next
+register-written RxNext d v = refl
+register-written TxStart d v = rw start-next
+register-written TxNext d v = refl
+register-written Mcr d v = refl
+register-written Mah d v = refl
+register-written Mal d v = refl
+register-written Unmodelled d v = refl
+
+pub write-parts : (b : Bench) (address value : ℕ)
+    → PartsKept (registerWrite address value) (b .device) (call b (registerWrite address value) .bench .device)
+write-parts b address value =
+    let r = registerAt address in
+    by-write (λ a. a .device ≡ registerOf r (b .device) (a .device)) (b .device) value
+    (register-same r (b .device)) (register-same r (b .device)) address (register-written r (b .device) value)
+
+-- ---- receiving and sending
+
+pub receive-parts : (d : Enet) (m frame : List ℕ) → ReceiveOnly d (receive d m frame .device)
+unfolding rxAdvanced
+receive-parts d m frame =
+    by-receive (λ o. ReceiveOnly d (o .device)) d m frame same same same same same stops lost
+    (by-test (λ r. ReceiveOnly d (withRegisters d r)) (nextEnabled (d .base) m (d .registers .rx .place)) _ _ (λ _. moves _) (λ _. ends))
+  where
+    same : ReceiveOnly d d
+    same = record { others = refl; engine = record { start = refl; next = refl } }
+
+    stops : ReceiveOnly d (rxStopped d)
+    stops = record { others = refl; engine = record { start = refl; next = refl } }
+
+    lost : ReceiveOnly d (raised d packetLost)
+    lost = record { others = refl; engine = record { start = refl; next = refl } }
+
+    moves : (p : ℕ) → ReceiveOnly d (withRx (raised d rxCurrDone) (ledTo (d .registers .rx) p))
+    moves p = record { others = refl; engine = record { start = refl; next = refl } }
+
+    ends : ReceiveOnly d (withRx (raised (raised d rxCurrDone) rxDone) (stopped (d .registers .rx)))
+    ends = record { others = refl; engine = record { start = refl; next = refl } }
+
+pub send-parts : (d : Enet) (m out : List ℕ) → SendOnly d (send d m out .device)
+unfolding txAdvanced
+send-parts d m out =
+    by-send (λ s. SendOnly d (s .device)) d m out same same same stops same stops
+    (λ _ _. by-test (λ r. SendOnly d (withRegisters d r)) (nextEnabled (d .base) m (d .registers .tx .place)) _ _ (λ _. moves _) (λ _. ends))
+  where
+    same : SendOnly d d
+    same = record { others = refl; engine = record { start = refl; next = refl } }
+
+    stops : SendOnly d (txStopped d)
+    stops = record { others = refl; engine = record { start = refl; next = refl } }
+
+    moves : (p : ℕ) → SendOnly d (withTx (raised d txCurrDone) (ledTo (d .registers .tx) p))
+    moves p = record { others = refl; engine = record { start = refl; next = refl } }
+
+    ends : SendOnly d (withTx (raised (raised d txCurrDone) txDone) (stopped (d .registers .tx)))
+    ends = record { others = refl; engine = record { start = refl; next = refl } }
+
+both : (d e f : Enet) → SendOnly d e → SendOnly e f → SendOnly d f
+both d e f p q = record {
+  others = q .others ∙ ap (λ x. withTx (statusOf x f) (f .registers .tx)) (p .others);
+  engine = record { start = q .engine .start ∙ p .engine .start; next = q .engine .next ∙ p .engine .next };
+}
+
+sends-parts : (left : ℕ) (d : Enet) (m out : List ℕ) → SendOnly d (sends left d m out .device)
+unfolding sends
+sends-parts zero d m out = record { others = refl; engine = record { start = refl; next = refl } }
+sends-parts (suc left) d m out =
+    by-test (λ (r : Running). SendOnly d (r .device)) (eqb (send d m out .number) 0) _ _
+    (λ _. both d _ _ (send-parts d m out) (sends-parts left _ _ _))
+    (λ _. send-parts d m out)
+
+pub run-parts : (d : Enet) (m out : List ℕ) (allowance : ℕ) → SendOnly d (run d m out allowance .device)
+unfolding run
+run-parts d m out allowance =
+    by-test (λ (r : Running). SendOnly d (r .device)) (ltb 4096 allowance) _ _
+    (λ _. record { others = refl; engine = record { start = refl; next = refl } })
+    (λ _. sends-parts allowance d m out)

@@ -1,0 +1,82 @@
+-- For each call the parts of the device that its rule names: every other part stays. Assumes nothing.
+use Prim.Native.Nat.{ℕ}
+use mathlib.Core.Path.{_≡_}
+use mathlib.Core.Bool.{true}
+use mathlib.Core.List.{List, [], _∷_}
+use lib.Bits.{bitOr}
+use Rattle.engine.specs.declared.Engine.{Engine}
+use Rattle.enet.specs.declared.Enet.{Enet}
+use Rattle.registers.specs.declared.Register.{Register}
+use Rattle.registers.specs.declared.Register.the-variants.{Ier, Isr, RxStart, RxNext, TxStart, TxNext, Mcr, Mah, Mal, Unmodelled}
+use Rattle.registers.specs.Registers.{txCurrDone, txDone, rxCurrDone, rxDone, packetLost}
+use Rattle.registers.specs.Registers as registers
+use Rattle.registers.specs.Registers.{withStatus, withEnable, withFilter}
+use Rattle.engine.specs.Engine.{nextWritten}
+use Rattle.enet.specs.Device.{withRegisters, withRx, withTx}
+use Rattle.registers.specs.Access.{registerAt}
+use Rattle.calls.specs.Calls.{Bench, Call, looks, registerWrite, grantCall, receiveCall, sendCall, stepRun, call}
+use Rattle.changes.specs.OneOf.{oneOf}
+
+-- ---- d is the device before, and e the one after
+
+-- d with the status of e
+abbrev pub statusOf : Enet → Enet → Enet
+statusOf d e = withRegisters d (withStatus (d .registers) (e .registers .isr))
+
+-- d with these filter registers
+abbrev pub filterOf : Enet → ℕ → ℕ → ℕ → Enet
+filterOf d mcr mah mal = withRegisters d (withFilter (d .registers) (registers.filterOf mcr mah mal))
+
+-- a register write changes its register, and a start write whether its engine runs and its place: d with these of e
+abbrev pub registerOf : Register → Enet → Enet → Enet
+registerOf Ier d e = withRegisters d (withEnable (d .registers) (e .registers .ier))
+registerOf Isr d e = statusOf d e
+registerOf RxStart d e = withRx d (nextWritten (e .registers .rx) (d .registers .rx .next))
+registerOf RxNext d e = withRx d (nextWritten (d .registers .rx) (e .registers .rx .next))
+registerOf TxStart d e = withTx d (nextWritten (e .registers .tx) (d .registers .tx .next))
+registerOf TxNext d e = withTx d (nextWritten (d .registers .tx) (e .registers .tx .next))
+registerOf Mcr d e = filterOf d (e .registers .filter .mcr) (d .registers .filter .mah) (d .registers .filter .mal)
+registerOf Mah d e = filterOf d (d .registers .filter .mcr) (e .registers .filter .mah) (d .registers .filter .mal)
+registerOf Mal d e = filterOf d (d .registers .filter .mcr) (d .registers .filter .mah) (e .registers .filter .mal)
+registerOf Unmodelled d e = d
+
+-- an engine that may have stopped or moved: its registers stay
+pub record SameRegisters (x y : Engine) : Type 0 where
+  pub start : y .start ≡ x .start
+  pub next : y .next ≡ x .next
+
+-- receiving changes the status, and whether its engine runs and its place
+pub record ReceiveOnly (d e : Enet) : Type 0 where
+  pub others : e ≡ withRx (statusOf d e) (e .registers .rx)
+  pub engine : SameRegisters (d .registers .rx) (e .registers .rx)
+
+-- and so does sending
+pub record SendOnly (d e : Enet) : Type 0 where
+  pub others : e ≡ withTx (statusOf d e) (e .registers .tx)
+  pub engine : SameRegisters (d .registers .tx) (e .registers .tx)
+
+-- the other calls change nothing
+abbrev pub PartsKept : Call → Enet → Enet → Type 0
+PartsKept (looks look) d e = e ≡ d
+PartsKept (registerWrite address value) d e = e ≡ registerOf (registerAt address) d e
+PartsKept (grantCall address) d e = e ≡ d
+PartsKept (receiveCall frame) d e = ReceiveOnly d e
+PartsKept (sendCall output) d e = SendOnly d e
+PartsKept (stepRun output allowance) d e = SendOnly d e
+
+-- ---- the status
+
+-- a status reached from another by setting some of these bits, one behind the other
+pub data Raises (masks : List ℕ) (isr : ℕ) : ℕ → Type 0 where
+  unchanged : Raises masks isr isr
+  thenSet : {now : ℕ} (mask : ℕ) → oneOf mask masks ≡ true → Raises masks isr now → Raises masks isr (bitOr now mask)
+
+-- "The base raises only RX_CURR_DONE, RX_DONE, TX_CURR_DONE, TX_DONE and PACKET_LOST."
+abbrev pub receiveBits : List ℕ
+receiveBits = rxCurrDone ∷ rxDone ∷ packetLost ∷ []
+
+abbrev pub sendBits : List ℕ
+sendBits = txCurrDone ∷ txDone ∷ []
+
+abbrev pub StatusRaised : List ℕ → Bench → Call → Type 0
+StatusRaised masks b c = Raises masks (b .device .registers .isr) (call b c .bench .device .registers .isr)

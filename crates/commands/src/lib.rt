@@ -1,0 +1,16 @@
+// What the bench console's commands do and write, as definitions (specs/, in the order of docs/CONSOLE.md), and the console's
+// state. The code stands in the crates above: replies, queries, firmware, lending, console.
+use enet::Enet;
+
+// The device, how much of the memory is lent to it, and how many lines have ended.
+pub struct Console {
+    pub device: Enet,
+    pub lent: usize,
+    pub lines: u64,
+}
+
+// The next console, and where the text in the lent buffer ends.
+pub struct Told {
+    pub console: Console,
+    pub end: usize,
+}

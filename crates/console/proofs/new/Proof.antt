@@ -1,0 +1,19 @@
+-- `console::new` meets its contract. Assumes nothing.
+use borrow.Author.Needs.{needs}
+use Rattle.console.proofs.Laws.{new-made}
+use Rattle.console.proofs.new.Statement.{statement}
+use Rattle.console.proofs.new.Tie as tie
+
+pub new-spec : {M : Type 1} → statement M
+new-spec =
+    tie.close
+    (tie.spec
+    (λ c κs. search needs)
+    (λ c κs. search needs)
+    (λ c. search needs)
+    (λ c. search needs)
+    (λ c κs. search needs)
+    (λ c. search needs)
+    (λ c. search needs)
+    (λ c. search needs)
+    (λ c. search new-made))

@@ -1,0 +1,17 @@
+-- `firmware::check` meets its contract. Assumes nothing.
+use borrow.Author.Needs.{needs}
+use Rattle.firmware.proofs.Laws.{check-says}
+use Rattle.firmware.proofs.check.Statement.{statement}
+use Rattle.firmware.proofs.check.Tie as tie
+
+pub check-spec : {M : Type 1} → statement M
+check-spec =
+    tie.close
+    (tie.spec
+    (λ c. search needs)
+    (λ c κs. search needs)
+    (λ c. search needs)
+    (λ c κs. search needs)
+    (λ c κs. search needs)
+    (λ c. search needs)
+    (λ c. search check-says))

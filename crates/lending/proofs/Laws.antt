@@ -1,0 +1,102 @@
+-- Laws of the calls over lent memory. Assumes nothing.
+use Prim.Native.Nat.{ℕ, _≤_, _<_}
+use mathlib.Core.Path.{_≡_, refl, sym, ap, _∙_}
+use mathlib.Core.List.{List, [], _++_}
+use native.Mathlib.Omega.{arith}
+use lib.ListN.{length, take, drop, length-take, drop-of-length-le}
+use lib.Seq.{take-all}
+use Rattle.enet.specs.declared.Enet.{Enet}
+use Rattle.enet.specs.declared.Answered.{Answered}
+use Rattle.enet.specs.declared.Sent.{Sent}
+use Rattle.enet.specs.declared.Ran.{Ran}
+use Rattle.enet.specs.Device.{Outcome, outcome}
+use Rattle.enet.specs.Frames.{grant as grantAt, receive}
+use Rattle.enet.specs.Send.{sending, send as sendInto}
+use Rattle.enet.specs.Run.{running, run as runInto}
+use Rattle.words.specs.Words.{characters}
+use Rattle.forms.specs.Pairs.{decoded, decode}
+use Rattle.text.specs.Text.{written, put}
+use Rattle.firmware.proofs.Laws.{named-is}
+use Rattle.commands.specs.declared.Console.{Console}
+use Rattle.commands.specs.declared.Told.{Told}
+use Rattle.commands.specs.Answers.{Given, answers, withDevice, given, tells}
+use Rattle.replies.specs.Replies.{numbered, shown, ran}
+use Rattle.commands.specs.Commands.{zeros, output, named, behindLent, grant, frame, send, run}
+
+-- all of a list, where fewer are asked for than there are not
+pub front-all : (s : List ℕ) (n : ℕ) → length s ≤ n
+    → ((length s ≤ length s) × (length s ≡ length (take (length s) s))) × ((take (length s) s ≡ take n s) × (drop (length s) s ≡ drop n s))
+front-all s n h =
+    let a : take (length s) s ≡ s = take-all (length s) s (omega arith) in
+    let b : take n s ≡ s = take-all n s h in
+    let c : drop (length s) s ≡ [] = drop-of-length-le s {i = length s} (omega arith) in
+    let d : drop n s ≡ [] = drop-of-length-le s {i = n} h in
+    ((omega arith, sym (ap length a)), (a ∙ sym b, c ∙ sym d))
+
+pub front-part : (s : List ℕ) (n : ℕ) → n < length s
+    → ((n ≤ length s) × (n ≡ length (take n s))) × ((take n s ≡ take n s) × (drop n s ≡ drop n s))
+front-part s n h = ((omega arith, simp length-take (omega arith)), (refl, refl))
+
+-- ---- a call that answers a number
+
+module _ (c : Console) (m t t′ : List ℕ) (at : ℕ) (r : Told) where
+  -- over all of the memory, or none of it
+  whole : (name m′ : List ℕ) (a : Answered) → r .console ≡ withDevice c (a .device) → written (r .end) t′ ≡ put t at (numbered name (a .number))
+      → given r m′ t′ ≡ tells (answers (withDevice c (a .device)) m′ (numbered name (a .number))) t at
+  whole name m′ a e h = λ j. record { console = e j; memory = m′; text = h j }
+
+  module _ (n : ℕ) (seen : take n m ≡ take (c .lent) m) (kept : drop n m ≡ drop (c .lent) m) where
+    part : (name l′ : List ℕ) (a : Answered) (o : Outcome) → outcome a l′ ≡ o → r .console ≡ withDevice c (a .device)
+        → written (r .end) t′ ≡ put t at (numbered name (a .number))
+        → given r (l′ ++ drop n m) t′ ≡ tells (answers (withDevice c (o .device)) (behindLent c m (o .memory)) (numbered name (o .number))) t at
+    part name l′ a o p e h =
+        whole name (l′ ++ drop n m) a e h
+        ∙ ap (λ (k : List ℕ). tells (answers (withDevice c (a .device)) (l′ ++ k) (numbered name (a .number))) t at) kept
+        ∙ ap (λ (o : Outcome). tells (answers (withDevice c (o .device)) (behindLent c m (o .memory)) (numbered name (o .number))) t at) p
+
+    pub grant-made : (address : ℕ) (a : Answered) (l′ : List ℕ) → outcome a l′ ≡ grantAt (c .device) (take n m) address
+        → r .console ≡ withDevice c (a .device) → written (r .end) t′ ≡ put t at (numbered (characters "grant") (a .number))
+        → given r (l′ ++ drop n m) t′ ≡ tells (grant c m address) t at
+    unfolding grant
+    grant-made address a l′ p e h = part (characters "grant") l′ a _ (rw seen at p) e h
+
+    pub frame-made : (s : List ℕ) (a : Answered) (l′ : List ℕ) → outcome a l′ ≡ receive (c .device) (take n m) s
+        → r .console ≡ withDevice c (a .device) → written (r .end) t′ ≡ put t at (numbered (characters "frame") (a .number))
+        → given r (l′ ++ drop n m) t′ ≡ tells (frame c m s) t at
+    unfolding frame
+    frame-made s a l′ p e h = part (characters "frame") l′ a _ (rw seen at p) e h
+
+-- ---- what was sent
+
+module _ (c : Console) (m l′ out out′ sent t t′ : List ℕ) (at end n : ℕ) (seen : take n m ≡ take (c .lent) m) (kept : drop n m ≡ drop (c .lent) m) where
+  pub send-made : (s : Sent) → sending s l′ out′ ≡ sendInto (c .device) (take n m) out → sent ≡ take (s .count) out′
+      → written end t′ ≡ put t at (shown (characters "send") (s .number) sent)
+      → given (record { console = withDevice c (s .device); end = end }) (l′ ++ drop n m) t′ ≡ tells (send c m out) t at
+  unfolding send
+  send-made s e p h =
+      let q : sending s l′ out′ ≡ sendInto (c .device) (take (c .lent) m) out = rw seen at e in
+      let g : written end t′ ≡ put t at (shown (characters "send") (s .number) (take (s .count) out′)) = rw p at h in
+      rw (← q) (λ j. record { console = withDevice c (s .device); memory = l′ ++ kept j; text = g j })
+
+  pub run-made : (allowance : ℕ) (r : Ran) → running r l′ out′ ≡ runInto (c .device) (take n m) out allowance → sent ≡ take (r .count) out′
+      → written end t′ ≡ put t at (ran (characters "run") (r .number) (r .steps) (r .count) sent)
+      → given (record { console = withDevice c (r .device); end = end }) (l′ ++ drop n m) t′ ≡ tells (run c m allowance out) t at
+  unfolding run
+  run-made allowance r e p h =
+      let q : running r l′ out′ ≡ runInto (c .device) (take (c .lent) m) out allowance = rw seen at e in
+      let g : written end t′ ≡ put t at (ran (characters "run") (r .number) (r .steps) (r .count) (take (r .count) out′)) = rw p at h in
+      rw (← q) (λ j. record { console = withDevice c (r .device); memory = l′ ++ kept j; text = g j })
+
+-- into an output of its room
+module _ (c : Console) (m t all : List ℕ) (at k room : ℕ) (x : Given) (blank : all ≡ zeros 65_536) (cut : take k all ≡ take room all) where
+  pub send-room : x ≡ tells (send c m (take k all)) t at → x ≡ tells (send c m (output room)) t at
+  send-room h = rw (cut, blank) at h
+
+  pub run-room : (allowance : ℕ) → x ≡ tells (run c m allowance (take k all)) t at → x ≡ tells (run c m allowance (output room)) t at
+  run-room allowance h = rw (cut, blank) at h
+
+-- ---- a frame that a word names
+
+pub received-is : (word out out′ s : List ℕ) (n : ℕ) (d : Enet) (m : List ℕ) (x : Outcome) → 2048 ≡ length out → decoded n out′ ≡ decode word out
+    → s ≡ take n out′ → x ≡ receive d m s → x ≡ receive d m (named word)
+received-is word out out′ s n d m x l e p h = h ∙ ap (receive d m) (p ∙ named-is word out out′ n l e)

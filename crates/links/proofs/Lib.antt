@@ -1,0 +1,4 @@
+pub mod Follow
+pub mod Rounds
+pub mod Same
+pub mod Sound

@@ -1,0 +1,14 @@
+use borrow.Author.Needs.{needs}
+use Rattle.packet_status.proofs.Laws.{fourth-word-written}
+use Rattle.packet_status.proofs.set_packet_status.Statement.{statement}
+use Rattle.packet_status.proofs.set_packet_status.Tie as tie
+
+pub set-packet-status-spec : {M : Type 1} → statement M
+set-packet-status-spec =
+    tie.close
+    (tie.spec
+    (λ c κs. search needs)
+    (λ c. search needs)
+    (λ c κs. search needs)
+    (λ c. search needs)
+    (λ c. search fourth-word-written))

@@ -1,0 +1,115 @@
+// A register write: its number, and the registers that it leaves.
+ghost use mathlib.Core.Path.{_≡_};
+ghost use Rattle.register_write.specs.Write.{cleared, written, writeNumber, write};
+use registers::Change;
+use registers::Register;
+use registers::Registers;
+
+// A status word with the bits cleared that are written as 1.
+fn cleared(isr: u32, v: u32) -> u32
+    ensures { λ s. ⌜ s ≡ cleared isr v ⌝ }
+{
+    isr & !(v & Registers::ISR_CLEARABLE)
+}
+
+// The registers after a write that is not refused.
+fn written(r: Registers, register: Register, v: u32) -> Registers
+    ensures { λ n. ⌜ n ≡ written r register v ⌝ }
+{
+    let mut next = r;
+    let rx = r.rx;
+    let tx = r.tx;
+    match register {
+        Register::Ier => {
+            next.ier = v & Registers::IER_WRITABLE;
+            next
+        }
+        Register::Isr => {
+            let isr = cleared(r.isr, v);
+            next.isr = isr;
+            next
+        }
+        Register::RxStart => {
+            let e = rx.start_written(v & Registers::RXSTR_WRITABLE);
+            next.rx = e;
+            next
+        }
+        Register::RxNext => {
+            let e = rx.next_written(v & Registers::RXNDAR_WRITABLE);
+            next.rx = e;
+            next
+        }
+        Register::TxStart => {
+            let e = tx.start_written(v & Registers::TXSTR_WRITABLE);
+            next.tx = e;
+            next
+        }
+        Register::TxNext => {
+            let e = tx.next_written(v & Registers::TXNDAR_WRITABLE);
+            next.tx = e;
+            next
+        }
+        Register::Mcr => {
+            let mcr = v & Registers::MCR_WRITABLE;
+            next.filter.mcr = mcr;
+            next
+        }
+        Register::Mah => {
+            let mah = v & Registers::MAH_WRITABLE;
+            next.filter.mah = mah;
+            next
+        }
+        Register::Mal => {
+            let mal = v & Registers::MAL_WRITABLE;
+            next.filter.mal = mal;
+            next
+        }
+        Register::Unmodelled => next,
+    }
+}
+
+// The refusals, 2 and 15, or 0.
+fn write_number(receiving: bool, sending: bool, register: Register) -> u32
+    ensures { λ n. ⌜ n ≡ writeNumber receiving sending register ⌝ }
+{
+    match register {
+        Register::Ier => answer::DONE,
+        Register::Isr => answer::DONE,
+        Register::RxStart => answer::DONE,
+        Register::RxNext => if receiving {
+            answer::ENGINE_RUNS
+        } else {
+            answer::DONE
+        },
+        Register::TxStart => answer::DONE,
+        Register::TxNext => if sending {
+            answer::ENGINE_RUNS
+        } else {
+            answer::DONE
+        },
+        Register::Mcr => answer::DONE,
+        Register::Mah => answer::DONE,
+        Register::Mal => answer::DONE,
+        Register::Unmodelled => answer::REGISTER_NOT_MODELLED,
+    }
+}
+
+// A register write.
+pub fn write(r: Registers, offset: u32, v: u32) -> Change
+    ensures { λ w. ⌜ w ≡ write r offset v ⌝ }
+{
+    let register = Register::at(offset);
+    let rx = r.rx;
+    let tx = r.tx;
+    let number = write_number(rx.running, tx.running, register);
+    if number != answer::DONE {
+        return Change {
+            number,
+            registers: r,
+        };
+    }
+    Change {
+        number: answer::DONE,
+        registers: written(r, register, v),
+    }
+}

@@ -1,0 +1,19 @@
+-- `text::put` meets its contract. Assumes nothing.
+use borrow.Author.Needs.{needs}
+use Rattle.text.proofs.Laws.{ways}
+use Rattle.text.proofs.put.Statement.{statement}
+use Rattle.text.proofs.put.Tie as tie
+
+pub put-spec : {M : Type 1} → statement M
+put-spec =
+    tie.close
+    (tie.spec
+    (λ c κs. search needs)
+    (λ c. search needs)
+    (λ c. search ways)
+    (λ c. search needs)
+    (λ c. search needs)
+    (λ c. search ways)
+    (λ c. search needs)
+    (λ c. search needs)
+    (λ c. search ways))

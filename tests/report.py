@@ -1,0 +1,239 @@
+#!/usr/bin/env python3
+"""Tests the report on short scripts with answers written by hand, and on the sample day as the console answers it.
+
+What the sample day has to come to is worked out by hand from document 01, not taken from the console.
+
+Usage: report.py PROGRAM   (the bench console)
+"""
+import os
+import pathlib
+import re
+import subprocess
+import sys
+import tempfile
+import xml.etree.ElementTree as ElementTree
+import zlib
+
+ROOT = pathlib.Path(__file__).resolve().parent.parent
+REPORT, DAY = ROOT / 'tools' / 'report', ROOT / 'examples' / 'day.txt'
+STATION, BROADCAST = bytes.fromhex('020000000001'), b'\xff' * 6
+
+# ---- the sample day, by hand
+
+# answers to the grants and to the frames, in the script's order
+GRANTS = [0, 0, 0, 14, 13, 0, 0, 0, 0, 0]
+FRAMES = [8, 0, 0, 6, 6, 5, 4, 0, 0, 0, 0, 0, 8, 0, 11]
+# the ring's fill: three grants, three frames, four grants, four frames, one grant, one frame
+FILL = [0, 1, 2, 3, 2, 1, 0, 1, 2, 3, 4, 3, 2, 1, 0, 1, 0]
+# the broadcast has 14 + 77 + 4 bytes, each result 64; the sends have 64, 64 and 66 + 4
+TOTALS = [
+    'calls 96',
+    'grants made 8',
+    'grants refused 2',
+    '13 1 descriptor not at a multiple of 4 or not all in the window',
+    '14 1 descriptor already granted',
+    'frames delivered 8 543 bytes',
+    'frames lost 2 128 bytes',
+    'frames refused 5',
+    '4 1 frame under 64 or over 1,518 bytes',
+    '5 1 frame check sequence wrong',
+    '6 2 address not for this station',
+    "11 1 lent memory not of the window's length",
+    'frames sent 3 198 bytes',
+]
+MARKS = {'grants': 8, 'delivered': 8, 'lost': 2, 'refused': 5, 'sent': 2}
+SHOWN = ['1042;41,7', '1043;0,185', '1045;41,700', '1044;38,25', '1046;40,05', '1047;39,9', '1048;42,125']
+
+# ---- short scripts: each line with its answer, and what the report has to say of it
+
+RESULT = '02000000000102000000001188b5' + b'1042;41,7\n'.hex() + '00' * 36
+FIRST, SECOND = '00460000400000001000000000000100', '00460000400000000000000000000000'
+LINES = [
+    ('new 100 64', 'new 0', '0 done: a window of 64 bytes from 00000100 on, all zero'),
+    ('new 100 60', 'new 1', '1 refused: window not allowed; the reset state, no window'),
+    ('lend 60', 'lend', 'lent from now on: 60 bytes'),
+    ('read 8', 'read 0 00008020', 'ISR (interrupt status) is 00008020: RX_CURR_DONE, PACKET_LOST'),
+    ('read 8', 'read 0 92cf82ef', ': TX_CURR_DONE, MAC-802.3_INT, TX_MERR_INT, TX_DONE, TX_NEXT, TX_TO, TX_ENTRY, TX_FULL, '
+     'TX_EMPTY, RX_CURR_DONE, RX_MERR_INT, RX_DONE, RX_NEXT, PACKET_LOST, RX_TO, RX_ENTRY, RX_FULL, RX_EMPTY'),
+    ('read 08', 'read 0 00000000', 'is 00000000: no bit set'),
+    ('read 4', 'read 0 00000080', 'IER (interrupt enable) is 00000080: RX_DONE'),
+    ('read 408', 'read 0 00000002', 'MAL (MAC address low) is 00000002: the station address begins 02-00-00-00'),
+    ('read 404', 'read 0 00000100', 'MAH (MAC address high) is 00000100: the station address ends 00-01'),
+    ('read c', 'read 2 00000000', '2 refused: register not modelled'),
+    ('write 8 20', 'write 0', 'ISR (interrupt status): clears PACKET_LOST'),
+    ('write 4 80000000', 'write 0', 'IER (interrupt enable): enables TX_CURR_DONE'),
+    ('write 10 5', 'write 0', 'RXSTR (receive start): START_FETCH, DMA_EN; receiving runs'),
+    ('write 10 4', 'write 0', 'START_FETCH; receiving stops'),
+    ('write 30 1', 'write 0', 'TXSTR (send start): DMA_EN; sending is not started'),
+    ('write 1c 103', 'write 0', 'RXNDAR (receive next descriptor): address 00000100'),
+    ('write 3c 100', 'write 15', '15 refused: next-descriptor register written while its engine runs'),
+    ('write 400 800a0004', 'write 0', 'MCR (MAC control): RA, AFM=5, RE; receive-all on, all-multicast on'),
+    ('write 400 00080000', 'write 0', 'AFM=4; receive-all off, all-multicast off'),
+    ('line', 'line 0', '0: the interrupt line is low'),
+    ('line', 'line 1', '1: the interrupt line is high'),
+    ('grant 100', 'grant 0', '0 done: descriptor at 00000100 handed to the DMA'),
+    ('grant 102', 'grant 13', '13 refused: descriptor not at a multiple of 4 or not all in the window'),
+    ('grant 100', 'grant 14', '14 refused: descriptor already granted'),
+    (f'frame {RESULT}00000000', 'frame 0', 'frame (64 bytes, to 02-00-00-00-00-01, 88B5 "1042;41,7") -> 0 delivered'),
+    (f'frame {RESULT}00000000', 'frame 8', '8 lost: descriptor not granted; PACKET_LOST is set'),
+    (f'frame {RESULT}00000000', 'frame 3', '3 refused: that engine is not running'),
+    ('frame -', 'frame 4', 'frame (0 bytes) -> 4 refused: frame under 64 or over 1,518 bytes'),
+    ('frame 00', 'frame 5', 'frame (1 byte) -> 5 refused: frame check sequence wrong'),
+    ('frame 0000', 'frame 6', '6 refused: address not for this station'),
+    ('frame 0000', 'frame 7', '7 refused: chain fault; that engine stops'),
+    ('frame 0000', 'frame 11', "11 refused: lent memory not of the window's length"),
+    ('send 1518', f'send 0 {RESULT}00000000', '0 done: sent 64 bytes, to 02-00-00-00-00-01, 88B5 "1042;41,7"'),
+    ('send 1517', 'send 9 -', '9 refused: output shorter than 1,518 bytes'),
+    ('send 1518', 'send 8 -', '8 refused: descriptor not granted'),
+    ('send 1518', 'send 12 -', '12 refused: send length under 14 or over 1,514; sending stops'),
+    ('run 4097 0', 'run 10 0 0 -', '0 steps, 0 frames sent, 0 bytes; last answer 10 refused: step allowance over 4,096'),
+    ('run 1 1518', f'run 0 1 64 {RESULT}00000000', '1 step, 1 frame sent, 64 bytes; last answer 0 done'),
+    ('run 2 1518', f'run 9 2 64 {RESULT}00000000', '2 steps, 1 frame sent, 64 bytes; last answer 9 refused'),
+    ('show 100', f'show 0 {RESULT}', 'descriptor at 00000100 holds 60 bytes, to 02-00-00-00-00-01, 88B5 "1042;41,7"'),
+    ('show 100', 'show 13 -', '13 refused: descriptor not at a multiple of 4 or not all in the window, or no frame to show'),
+    ('ring 2 100', 'ring no', 'no: not a sound ring of 2 descriptors'),
+    (f'poke 0 {FIRST}', 'poke ok', 'a descriptor, count 1536, start 00000040, next 00000010, granted'),
+    ('poke c 00000100', 'poke ok', 'packet status of the descriptor at 00000000, granted'),
+    ('poke 0 00', 'poke outside', 'outside the window: nothing is written'),
+    ('peek 0 3', 'peek 343100', '-> "41"'),
+    ('peek 0 2', 'peek ff00', '-> ff00'),
+    ('peek 0 2', 'peek outside', '-> outside the window'),
+    ('check', 'check cbf43926', "cbf43926: CRC-32 of the window's bytes"),
+    ('state', 'state 1 00000010 0 00000000', 'receiving runs, place 00000010; sending is stopped, place 00000000'),
+]
+
+# name, script, output, what the report has to say; each ends with status 1
+FAULTS = [
+    ('output ends early', 'line\nline\n', 'line 0\n', 'line 2: the output ends before the answer to "line"'),
+    ('no output', 'line\n', '', 'line 1: the output ends before the answer to "line"'),
+    ('output goes on', '# nothing\n', 'line 0\n', 'the output goes on after the last call; lines left: 1'),
+    ('a line not taken', '\nlin\nline\n', 'error 2\nline 1\n', 'line 2: the console did not take "lin"'),
+    ('an unknown call', 'tick\n', 'tick 0\n', 'line 1: "tick" is no call known here, yet it was answered "tick 0"'),
+    ('a call of another form', 'grant\n', 'grant 0\n', '"grant" is no call known here'),
+    ('another answer', 'grant 0\n', 'frame 0\n', 'line 1: "frame 0" does not answer "grant 0"'),
+    ('an error elsewhere', 'grant 0\n', 'error 2\n', '"error 2" does not answer "grant 0"'),
+    ('an answer cut', 'read 8\n', 'read 0 0000\n', '"read 0 0000" does not answer "read 8"'),
+    ('no numbered result', 'grant 0\n', 'grant 16\n', '16 is no numbered result'),
+    ('bytes cut', 'run 1 1518\n', 'run 0 1 64 00\n', '64 bytes promised, 1 written'),
+    ('no text', 'line\n', b'\xff\x00\n', 'does not answer "line"'),
+]
+
+
+class Tests:
+    def __init__(self, folder):
+        self.folder = pathlib.Path(folder)
+        self.passed = self.failed = 0
+
+    def expect(self, title, right, seen=''):
+        if right:
+            self.passed += 1
+        else:
+            self.failed += 1
+            print(f'FAILED: {title}: {seen}')
+
+    def report(self, script, output, *words):
+        """The report's status and text."""
+        for name, content in [('script', script), ('output', output)]:
+            (self.folder / name).write_bytes(content if isinstance(content, bytes) else content.encode('utf-8'))
+        done = subprocess.run([sys.executable, REPORT, self.folder / 'script', self.folder / 'output', *words],
+                              capture_output=True, encoding='utf-8', timeout=60, env=os.environ | {'PYTHONIOENCODING': 'utf-8'})
+        return done.returncode, done.stdout + done.stderr
+
+    def lines(self):
+        script, output, _ = (''.join(f'{part}\n' for part in column) for column in zip(*LINES))
+        status, text = self.report(script, output, '--svg', self.folder / 'lines.svg')
+        self.expect('all lines', status == 0, text)
+        # a long answer stands on a line of its own
+        calls, _ = re.sub(r'\n +->', ' ->', text).split('\nWhat the day comes to\n')
+        told = dict(re.findall(r'^ *(\d+)  (.*)', calls, re.MULTILINE))
+        for at, (line, answer, wanted) in enumerate(LINES, 1):
+            self.expect(f'{line}, {answer}', wanted in told.get(str(at), ''), told.get(str(at)))
+        for wanted in ['grants made 1', 'frames delivered 1 64 bytes', 'frames lost 1 64 bytes', 'frames refused 6',
+                       'frames sent 3 192 bytes']:
+            self.expect(f'all lines: {wanted}', wanted in rows(text), text)
+
+    def ring(self):
+        """Descriptors are named by their place in the ring, which is that of its next words."""
+        status, text = self.report(f'poke 0 {FIRST}\npoke 10 {SECOND}\nring 2 10\ngrant 0\nnew 0 64\ngrant 0\n',
+                                   'poke ok\npoke ok\nring yes\ngrant 0\nnew 0\ngrant 0\n')
+        grants = [line.split(' -> ')[1] for line in text.splitlines() if 'grant ' in line]
+        self.expect('the ring', status == 0 and grants == ['0 done: descriptor 2 of the ring handed to the DMA',
+                                                           '0 done: descriptor at 00000000 handed to the DMA'], text)
+
+    def headings(self):
+        """Comments are headings, whatever they hold; those with calls are numbered."""
+        picture = self.folder / 'headings.svg'
+        status, text = self.report('# Pr\u00fcfung \x07 & <b>\n\n# First\n# more\nline\n#\n', 'line 0\n', '--svg', picture)
+        wanted = ['Pr\u00fcfung \\x07 & <b>', '1. First', 'more']
+        self.expect('headings', status == 0 and set(wanted) <= set(rows(text)), text)
+        titles = [element.text for element in ElementTree.parse(picture).getroot().iter('{http://www.w3.org/2000/svg}title')]
+        self.expect("the picture's title", titles[:1] == wanted[:1], titles)
+
+    def faults(self):
+        for name, script, output, wanted in FAULTS:
+            status, text = self.report(script, output, '--svg', self.folder / 'fault.svg')
+            self.expect(name, status == 1 and wanted in text and 'not whole' in text, text)
+        status, text = self.report('line\n', 'line 0\n', '--svg', self.folder / 'no' / 'such.svg')
+        self.expect('a picture that cannot be written', status == 1 and 'Traceback' not in text, text)
+        status, text = self.report('', '', '--svg', self.folder / 'empty.svg')
+        self.expect('an empty day', status == 0 and 'calls 0' in rows(text), text)
+
+    def day(self, program):
+        script = DAY.read_text()
+        frames = [bytes.fromhex(line.split()[1]) for line in script.splitlines() if line.startswith('frame ')]
+        self.expect("the day's frames are what they are meant to be",
+                    [refusal(frame) for frame in frames] == [0 if number in (8, 11) else number for number in FRAMES])
+        done = subprocess.run([program], input=script.encode(), capture_output=True, timeout=60)
+        answers = done.stdout.decode().splitlines()
+        for name, wanted in [('grant', GRANTS), ('frame', FRAMES)]:
+            given = [int(answer.split()[1]) for answer in answers if answer.startswith(f'{name} ')]
+            self.expect(f'{name}s of the day', given == wanted, given)
+        picture = self.folder / 'day.svg'
+        status, text = self.report(script, done.stdout, '--svg', picture)
+        self.expect('status of the day', status == 0, text)
+        for wanted in TOTALS:
+            self.expect(f'the day: {wanted}', wanted in rows(text), text)
+        self.expect('results shown', re.findall(r'descriptor \d of the ring holds 60 bytes, .*"(.*)"', text) == SHOWN, text)
+        self.picture(ElementTree.parse(picture).getroot())
+
+    def picture(self, root):
+        signs = [element.get('class', '').split() for element in root.iter('{http://www.w3.org/2000/svg}g')]
+        for kind, wanted in MARKS.items():
+            given = signs.count(['mark', kind])
+            self.expect(f'marks in the picture: {kind}', given == wanted, given)
+        line, = [element.get('d') for element in root.iter('{http://www.w3.org/2000/svg}path') if element.get('class') == 'fill']
+        first, *others = [float(y) for y in re.findall(r'M\S+ ([\d.]+)', line) + re.findall(r'V([\d.]+)', line)]
+        one = (first - min(others)) / max(FILL)
+        self.expect('fill in the picture', [(first - y) / one for y in [first] + others] == FILL, line)
+
+
+def refusal(frame):
+    """The first of 4, 5 and 6 that a frame meets on the sample day, or 0."""
+    if not 64 <= len(frame) <= 1518:
+        return 4
+    if zlib.crc32(frame[:-4]) != int.from_bytes(frame[-4:], 'little'):
+        return 5
+    return 0 if frame[:6] in (STATION, BROADCAST) else 6
+
+
+def rows(text):
+    """The lines of a report, each run of blanks as one."""
+    return [' '.join(line.split()) for line in text.splitlines()]
+
+
+def main(program):
+    with tempfile.TemporaryDirectory() as folder:
+        tests = Tests(folder)
+        tests.lines()
+        tests.ring()
+        tests.headings()
+        tests.faults()
+        tests.day(str(pathlib.Path(program).resolve()))
+    print(f'report: {tests.passed} passed, {tests.failed} failed')
+    return 1 if tests.failed or not tests.passed else 0
+
+
+if __name__ == '__main__':
+    if len(sys.argv) != 2:
+        sys.exit(__doc__)
+    sys.exit(main(sys.argv[1]))
