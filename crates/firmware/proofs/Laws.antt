@@ -46,9 +46,11 @@ store-front m s =
     (λ e.
     let l : length m < length s = leb-false (length s) (length m) e in
     let u = take (length m) s in
+    let v = drop (length m) s in
     let lu : length u ≡ length m = simp length-take (omega arith) in
-    let a : store (store m 0 u) (0 + length u) (drop (length m) s) ≡ store m 0 s = rw (take-append-drop (length m) s) at (store-append u (drop (length m) s) m 0) in
-    let o : store m 0 u ≡ store (store m 0 u) (0 + length u) (drop (length m) s) = store-out (store m 0 u) (0 + length u) _ (omega (arith, length-store m 0 u)) in
+    let a : store (store m 0 u) (0 + length u) v ≡ store m 0 s = rw (take-append-drop (length m) s) at (store-append u v m 0) in
+    let f : length (store m 0 u) ≤ 0 + length u = omega (arith, length-store m 0 u) in
+    let o : store m 0 u ≡ store (store m 0 u) (0 + length u) v = store-out (store m 0 u) (0 + length u) v f in
     take-all (length s) (store m 0 s) (omega (arith, length-store m 0 s)) ∙ sym (o ∙ a) ∙ store-over m u lu)
 
 pub named-is : (word out out′ : List ℕ) (n : ℕ) → 2048 ≡ length out → decoded n out′ ≡ decode word out → take n out′ ≡ named word

@@ -28,7 +28,8 @@ pub digits-end : (w : List ℕ) (i : ℕ) → allDigits w ≡ allDigits (drop i 
 digits-end w i so-far h = sym (rw (drop-of-length-le w {i = i} h) at so-far)
 
 -- a turn of the loop that stores the bytes of the pairs
-pairs-turn : (m w : List ℕ) (n : ℕ) → n < length w / 2 → sets (set m n (byteOf (getD w (2 * n) 0) (getD w (2 * n + 1) 0))) (n + 1) (bytesOf (drop (2 * (n + 1)) w)) ≡ sets m n (bytesOf (drop (2 * n) w))
+pairs-turn : (m w : List ℕ) (n : ℕ) → n < length w / 2
+    → sets (set m n (byteOf (getD w (2 * n) 0) (getD w (2 * n + 1) 0))) (n + 1) (bytesOf (drop (2 * (n + 1)) w)) ≡ sets m n (bytesOf (drop (2 * n) w))
 pairs-turn m w n h =
     let h1 : 2 * n < length w = omega arith in
     let h2 : suc (2 * n) < length w = omega arith in
@@ -40,7 +41,8 @@ bytes-short [] h = refl
 bytes-short (a ∷ []) h = refl
 bytes-short (a ∷ b ∷ s) h = absurd (omega arith)
 
-pub pairs-more : (m m′ w all : List ℕ) (n b : ℕ) → n < length w / 2 → b ≡ byteOf (getD w (2 * n) 0) (getD w (2 * n + 1) 0) → m′ ≡ store m n (b ∷ []) → sets m n (bytesOf (drop (2 * n) w)) ≡ all → sets m′ (n + 1) (bytesOf (drop (2 * (n + 1)) w)) ≡ all
+pub pairs-more : (m m′ w all : List ℕ) (n b : ℕ) → n < length w / 2 → b ≡ byteOf (getD w (2 * n) 0) (getD w (2 * n + 1) 0)
+    → m′ ≡ store m n (b ∷ []) → sets m n (bytesOf (drop (2 * n) w)) ≡ all → sets m′ (n + 1) (bytesOf (drop (2 * (n + 1)) w)) ≡ all
 unfolding store
 pairs-more m m′ w all n b h e k so-far = rw (k, e) (pairs-turn m w n h ∙ so-far)
 

@@ -40,7 +40,8 @@ module _ (t : List ℕ) (at n most : ℕ) (x : Text) where
 
 -- ---- bytes in pairs
 
-pub pair-is : (t : List ℕ) (at b high low : ℕ) (x : Text) → high ≡ glyph (b / 16) → low ≡ glyph (b % 16) → x ≡ put t at (high ∷ low ∷ []) → x ≡ put t at (pair b)
+pub pair-is : (t : List ℕ) (at b high low : ℕ) (x : Text) → high ≡ glyph (b / 16) → low ≡ glyph (b % 16)
+    → x ≡ put t at (high ∷ low ∷ []) → x ≡ put t at (pair b)
 unfolding pair
 pair-is t at b high low x h l e = rw (← h, ← l) e
 

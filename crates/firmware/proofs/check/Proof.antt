@@ -14,4 +14,8 @@ check-spec =
     (λ c κs. search needs)
     (λ c κs. search needs)
     (λ c. search needs)
-    (λ c. search check-says))
+    (λ c.
+    let p = c .before .before .before .before .before .before .part in
+    let n = c .before .before .before .check-number in
+    let h = c .before .before .valued in
+    check-says _ _ _ _ _ _ _ (p .ensures) (n .ensures) (h .ensures)))

@@ -12,10 +12,20 @@ peek-spec =
     (λ c. search needs)
     (λ c κs. search needs)
     (λ c. search needs)
-    (λ c. search peek-outside)
+    (λ c.
+    let w = c .before .before .before .before .before .before .in-window in
+    let i = c .before .before .before .before .before .if1 in
+    let h = c .before .before .said in
+    peek-outside _ _ _ _ _ _ _ _ (w .ensures) (i .taken) (h .ensures))
     (λ c κs. search needs)
     (λ c. search needs)
     (λ c κs. search needs)
     (λ c κs. search needs)
     (λ c. search needs)
-    (λ c. search peek-inside))
+    (λ c.
+    let w = c .before .before .before .before .before .before .before .before .in-window in
+    let i = c .before .before .before .before .before .before .before .if1 in
+    let o = c .before .before .before .before .before .before .offset in
+    let p = c .before .before .before .part in
+    let h = c .before .before .held in
+    peek-inside _ _ _ _ _ _ _ _ (w .ensures) _ _ (i .left) (o .ensures) (p .ensures) (h .ensures)))

@@ -15,4 +15,9 @@ received-spec =
     (λ c κs. search needs)
     (λ c κs. search needs)
     (λ c. search needs)
-    (λ c. search received-is))
+    (λ c.
+    let k = c .before .before .before .before .before .before .before .before .before .blank in
+    let d = c .before .before .before .before .before .before .before .decode in
+    let p = c .before .before .before .part in
+    let r = c .before .before .receive in
+    received-is _ _ _ _ _ _ _ _ (k .ensures) (d .ensures) (p .ensures) (r .ensures)))

@@ -18,4 +18,9 @@ run-into-spec =
     (λ c. search needs)
     (λ c. search needs)
     (λ c. search needs)
-    (λ c. search run-made))
+    (λ c.
+    let f = c .before .before .before .before .before .before .before .before .before .before .before .before .before .before .before .before .front in
+    let r = c .before .before .before .before .before .before .before .before .before .before .before .before .run in
+    let p = c .before .before .before .before .before .part in
+    let h = c .before .before .ran in
+    run-made _ _ _ _ _ _ _ _ _ _ (f .result) (f .ensures .1 .0) (f .ensures .1 .1) _ _ (r .ensures) (p .ensures) (h .ensures)))

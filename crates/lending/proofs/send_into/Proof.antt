@@ -18,4 +18,9 @@ send-into-spec =
     (λ c. search needs)
     (λ c. search needs)
     (λ c. search needs)
-    (λ c. search send-made))
+    (λ c.
+    let f = c .before .before .before .before .before .before .before .before .before .before .before .before .before .before .before .before .front in
+    let s = c .before .before .before .before .before .before .before .before .before .before .before .before .send in
+    let p = c .before .before .before .part in
+    let h = c .before .before .shown in
+    send-made _ _ _ _ _ _ _ _ _ _ (f .result) (f .ensures .1 .0) (f .ensures .1 .1) _ (s .ensures) (p .ensures) (h .ensures)))

@@ -12,4 +12,7 @@ read-spec =
     (λ c. search needs)
     (λ c κs. search needs)
     (λ c. search needs)
-    (λ c. search read-says))
+    (λ c.
+    let r = c .before .before .before .before .before .read in
+    let h = c .before .before .read2 in
+    read-says _ _ _ _ _ _ (r .ensures) (h .ensures)))

@@ -13,4 +13,8 @@ show-spec =
     (λ c κs. search needs)
     (λ c κs. search needs)
     (λ c. search needs)
-    (λ c. search show-says))
+    (λ c.
+    let n = c .before .before .before .before .before .before .reading-number in
+    let r = c .before .before .before .reading in
+    let h = c .before .before .shown in
+    show-says _ _ _ _ _ _ _ _ (n .ensures) (r .ensures) (h .ensures)))

@@ -11,4 +11,4 @@ state-spec =
     (λ c. search needs)
     (λ c κs. search needs)
     (λ c. search needs)
-    (λ c. search state-says))
+    (λ c. state-says _ _ _ _ (c .before .before .engines .ensures)))
