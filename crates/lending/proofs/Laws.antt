@@ -100,3 +100,9 @@ module _ (c : Console) (m t all : List ℕ) (at k room : ℕ) (x : Given) (blank
 pub received-is : (word out out′ s : List ℕ) (n : ℕ) (d : Enet) (m : List ℕ) (x : Outcome) → 2048 ≡ length out → decoded n out′ ≡ decode word out
     → s ≡ take n out′ → x ≡ receive d m s → x ≡ receive d m (named word)
 received-is word out out′ s n d m x l e p h = h ∙ ap (receive d m) (p ∙ named-is word out out′ n l e)
+
+-- ---- the line of a call that answers a number alone
+
+pub answered-is : (c : Console) (a : Answered) (t t′ name : List ℕ) (at end : ℕ) → written end t′ ≡ put t at (numbered name (a .number))
+    → (withDevice c (a .device) ≡ withDevice c (a .device)) × (written end t′ ≡ put t at (numbered name (a .number)))
+answered-is c a t t′ name at end h = (refl, h)
