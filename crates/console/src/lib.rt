@@ -3,10 +3,10 @@ ghost use mathlib.Core.Path.{_≡_};
 ghost use Rattle.words.specs.Words.{characters};
 ghost use Rattle.text.specs.Text.{written, put};
 ghost use Rattle.replies.specs.Replies.{said};
-ghost use Rattle.commands.specs.Answers.{answers, given, tells};
+ghost use Rattle.commands.specs.Answers.{given, tells};
 ghost use Rattle.commands.specs.Commands.{new};
 ghost use Rattle.commands.specs.Answering.{reset, answerTo, counted, silent, answer};
-ghost use Rattle.console.specs.Says.{says};
+use asking::Query;
 use commands::Console;
 use commands::Told;
 use enet::Enet;
@@ -50,65 +50,6 @@ fn lend(mut console: Console, n: u32, text: &mut [u8], at: usize) -> Told
     Told { console, end }
 }
 
-// The calls that change nothing.
-enum Query {
-    Read,
-    Line,
-    Show,
-    Ring,
-    Peek,
-    Check,
-    State,
-    Error,
-}
-
-// Writes what one of them says.
-fn said(
-    console: Console,
-    query: Query,
-    a: u32,
-    b: u32,
-    memory: &[u8],
-    text: &mut [u8],
-    at: usize,
-) -> usize
-    ensures { λ r. ⌜ written r (now (text .exit)) ≡ put (now (text .entry)) at (says query console (now (memory .entry)) a b) ⌝ }
-{
-    let device = console.device;
-    match query {
-        Query::Read => queries::read(device, a, text, at),
-        Query::Line => queries::line(device, text, at),
-        Query::Show => queries::show(device, a, memory::part(memory, 0, console.lent), text, at),
-        Query::Ring => queries::ring(
-            device,
-            a,
-            b,
-            memory::part(memory, 0, console.lent),
-            text,
-            at,
-        ),
-        Query::Peek => firmware::peek(device, a, b, memory, text, at),
-        Query::Check => firmware::check(device, memory, text, at),
-        Query::State => queries::state(device, text, at),
-        Query::Error => replies::numbered(text, at, b"error", console.lines),
-    }
-}
-
-fn told(
-    console: Console,
-    query: Query,
-    a: u32,
-    b: u32,
-    memory: &[u8],
-    text: &mut [u8],
-    at: usize,
-) -> Told
-    ensures { λ r. ⌜ given r (now (memory .entry)) (now (text .exit)) ≡ tells (answers console (now (memory .entry)) (says query console (now (memory .entry)) a b)) (now (text .entry)) at ⌝ }
-{
-    let end = said(console, query, a, b, memory, text, at);
-    Told { console, end }
-}
-
 fn new(
     console: Console,
     base: u32,
@@ -149,26 +90,26 @@ fn make(
     match command {
         Command::New => new(console, a, b, memory, text, at),
         Command::Lend => lend(console, a, text, at),
-        Command::Read => told(console, Query::Read, a, b, memory, text, at),
+        Command::Read => asking::told(console, Query::Read, a, b, memory, text, at),
         Command::Write => {
             let device = console.device;
             lending::answered(console, device.write(a, b), b"write", text, at)
         }
-        Command::Line => told(console, Query::Line, a, b, memory, text, at),
+        Command::Line => asking::told(console, Query::Line, a, b, memory, text, at),
         Command::Grant => lending::grant(console, a, memory, text, at),
         Command::Frame => lending::frame(console, words::rest(line), memory, text, at),
-        Command::Send => lending::send(console, a, memory, text, at),
-        Command::Run => lending::run(console, a, b, memory, text, at),
-        Command::Show => told(console, Query::Show, a, b, memory, text, at),
-        Command::Ring => told(console, Query::Ring, a, b, memory, text, at),
+        Command::Send => outgoing::send(console, a, memory, text, at),
+        Command::Run => outgoing::run(console, a, b, memory, text, at),
+        Command::Show => asking::told(console, Query::Show, a, b, memory, text, at),
+        Command::Ring => asking::told(console, Query::Ring, a, b, memory, text, at),
         Command::Poke => {
             let word = words::rest(words::rest(line));
             firmware::poke(console, a, word, memory, text, at)
         }
-        Command::Peek => told(console, Query::Peek, a, b, memory, text, at),
-        Command::Check => told(console, Query::Check, a, b, memory, text, at),
-        Command::State => told(console, Query::State, a, b, memory, text, at),
-        Command::Error => told(console, Query::Error, a, b, memory, text, at),
+        Command::Peek => asking::told(console, Query::Peek, a, b, memory, text, at),
+        Command::Check => asking::told(console, Query::Check, a, b, memory, text, at),
+        Command::State => asking::told(console, Query::State, a, b, memory, text, at),
+        Command::Error => asking::told(console, Query::Error, a, b, memory, text, at),
     }
 }
 

@@ -20,7 +20,8 @@ use Rattle.text.specs.Text.{Text, written, put}
 use Rattle.text.proofs.Laws.{store-append}
 use Rattle.commands.specs.declared.Console.{Console}
 use Rattle.commands.specs.Answers.{Given, given, tells}
-use Rattle.replies.specs.Replies.{said, valued, held}
+use Rattle.replies.specs.Replies.{said, valued}
+use Rattle.reports.specs.Reports.{held}
 use Rattle.commands.specs.Commands.{named, poke, peekSays, checkSays}
 use Rattle.fcs.specs.CheckSequence.{checkNumber}
 

@@ -28,7 +28,7 @@ pub fn peek(device: Enet, address: u32, n: u32, memory: &[u8], text: &mut [u8], 
         return replies::said(text, at, b"peek outside");
     }
     let from = window::offset(device.base, address);
-    replies::held(text, at, b"peek", memory::part(memory, from, n as usize))
+    reports::held(text, at, b"peek", memory::part(memory, from, n as usize))
 }
 
 pub fn check(device: Enet, memory: &[u8], text: &mut [u8], at: usize) -> usize

@@ -7,21 +7,17 @@ use lib.ListN.{length, take, drop, length-take, drop-of-length-le}
 use lib.Seq.{take-all}
 use Rattle.enet.specs.declared.Enet.{Enet}
 use Rattle.enet.specs.declared.Answered.{Answered}
-use Rattle.enet.specs.declared.Sent.{Sent}
-use Rattle.enet.specs.declared.Ran.{Ran}
 use Rattle.enet.specs.Device.{Outcome, outcome}
 use Rattle.enet.specs.Frames.{grant as grantAt, receive}
-use Rattle.enet.specs.Send.{sending, send as sendInto}
-use Rattle.enet.specs.Run.{running, run as runInto}
 use Rattle.words.specs.Words.{characters}
 use Rattle.forms.specs.Pairs.{decoded, decode}
 use Rattle.text.specs.Text.{written, put}
 use Rattle.firmware.proofs.Laws.{named-is}
 use Rattle.commands.specs.declared.Console.{Console}
 use Rattle.commands.specs.declared.Told.{Told}
-use Rattle.commands.specs.Answers.{Given, answers, withDevice, given, tells}
-use Rattle.replies.specs.Replies.{numbered, shown, ran}
-use Rattle.commands.specs.Commands.{zeros, output, named, behindLent, grant, frame, send, run}
+use Rattle.commands.specs.Answers.{answers, withDevice, given, tells}
+use Rattle.replies.specs.Replies.{numbered}
+use Rattle.commands.specs.Commands.{named, behindLent, grant, frame}
 
 -- all of a list, where fewer are asked for than there are not
 pub front-all : (s : List ℕ) (n : ℕ) → length s ≤ n
@@ -65,35 +61,6 @@ module _ (c : Console) (m t t′ : List ℕ) (at : ℕ) (r : Told) where
         → given r (l′ ++ drop n m) t′ ≡ tells (frame c m s) t at
     unfolding frame
     frame-made s a l′ p e h = part (characters "frame") l′ a _ (rw seen at p) e h
-
--- ---- what was sent
-
-module _ (c : Console) (m l′ out out′ sent t t′ : List ℕ) (at end n : ℕ) (seen : take n m ≡ take (c .lent) m) (kept : drop n m ≡ drop (c .lent) m) where
-  pub send-made : (s : Sent) → sending s l′ out′ ≡ sendInto (c .device) (take n m) out → sent ≡ take (s .count) out′
-      → written end t′ ≡ put t at (shown (characters "send") (s .number) sent)
-      → given (record { console = withDevice c (s .device); end = end }) (l′ ++ drop n m) t′ ≡ tells (send c m out) t at
-  unfolding send
-  send-made s e p h =
-      let q : sending s l′ out′ ≡ sendInto (c .device) (take (c .lent) m) out = rw seen at e in
-      let g : written end t′ ≡ put t at (shown (characters "send") (s .number) (take (s .count) out′)) = rw p at h in
-      rw (← q) (λ j. record { console = withDevice c (s .device); memory = l′ ++ kept j; text = g j })
-
-  pub run-made : (allowance : ℕ) (r : Ran) → running r l′ out′ ≡ runInto (c .device) (take n m) out allowance → sent ≡ take (r .count) out′
-      → written end t′ ≡ put t at (ran (characters "run") (r .number) (r .steps) (r .count) sent)
-      → given (record { console = withDevice c (r .device); end = end }) (l′ ++ drop n m) t′ ≡ tells (run c m allowance out) t at
-  unfolding run
-  run-made allowance r e p h =
-      let q : running r l′ out′ ≡ runInto (c .device) (take (c .lent) m) out allowance = rw seen at e in
-      let g : written end t′ ≡ put t at (ran (characters "run") (r .number) (r .steps) (r .count) (take (r .count) out′)) = rw p at h in
-      rw (← q) (λ j. record { console = withDevice c (r .device); memory = l′ ++ kept j; text = g j })
-
--- into an output of its room
-module _ (c : Console) (m t all : List ℕ) (at k room : ℕ) (x : Given) (blank : all ≡ zeros 65_536) (cut : take k all ≡ take room all) where
-  pub send-room : x ≡ tells (send c m (take k all)) t at → x ≡ tells (send c m (output room)) t at
-  send-room h = rw (cut, blank) at h
-
-  pub run-room : (allowance : ℕ) → x ≡ tells (run c m allowance (take k all)) t at → x ≡ tells (run c m allowance (output room)) t at
-  run-room allowance h = rw (cut, blank) at h
 
 -- ---- a frame that a word names
 

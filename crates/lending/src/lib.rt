@@ -6,7 +6,7 @@ ghost use Rattle.enet.specs.Device.{outcome};
 ghost use Rattle.enet.specs.Frames.{receive};
 ghost use Rattle.text.specs.Text.{written, put};
 ghost use Rattle.commands.specs.Answers.{given, tells, withDevice};
-ghost use Rattle.commands.specs.Commands.{zeros, output, named, grant, frame, send, run};
+ghost use Rattle.commands.specs.Commands.{named, grant, frame};
 ghost use Rattle.replies.specs.Replies.{numbered};
 use commands::Console;
 use commands::Told;
@@ -15,7 +15,7 @@ use enet::Enet;
 use forms::pairs;
 
 // n, or all of s where it is shorter.
-fn front(s: &[u8], n: usize) -> usize
+pub fn front(s: &[u8], n: usize) -> usize
     ensures { λ r. ⌜ (r ≤ length (now (s .entry))) × (r ≡ length (take r (now (s .entry)))) ⌝ }
     ensures { λ r. ⌜ (take r (now (s .entry)) ≡ take n (now (s .entry))) × (drop r (now (s .entry)) ≡ drop n (now (s .entry))) ⌝ }
 {
@@ -69,84 +69,4 @@ pub fn frame(console: Console, word: &[u8], memory: &mut [u8], text: &mut [u8], 
     let n = front(memory, console.lent);
     let a = received(console.device, word, &mut memory[..n]);
     answered(console, a, b"frame", text, at)
-}
-
-// The largest output, all zero.
-fn largest() -> [u8; 65536]
-    ensures { λ r. ⌜ (r ≡ zeros 65_536) × (65_536 ≡ length r) ⌝ }
-{
-    [0; 65536]
-}
-
-fn send_into(
-    console: Console,
-    memory: &mut [u8],
-    out: &mut [u8],
-    text: &mut [u8],
-    at: usize,
-) -> Told
-    ensures { λ r. ⌜ given r (now (memory .exit)) (now (text .exit)) ≡ tells (send console (now (memory .entry)) (now (out .entry))) (now (text .entry)) at ⌝ }
-{
-    let n = front(memory, console.lent);
-    let device = console.device;
-    let s = device.send(&mut memory[..n], out);
-    let next = s.device;
-    let end = replies::shown(text, at, b"send", s.number, memory::part(out, 0, s.count));
-    Told {
-        console: Console {
-            device: next,
-            lent: console.lent,
-            lines: console.lines,
-        },
-        end,
-    }
-}
-
-pub fn send(console: Console, room: u32, memory: &mut [u8], text: &mut [u8], at: usize) -> Told
-    ensures { λ r. ⌜ given r (now (memory .exit)) (now (text .exit)) ≡ tells (send console (now (memory .entry)) (output room)) (now (text .entry)) at ⌝ }
-{
-    let mut out = largest();
-    let k = front(&out, room as usize);
-    send_into(console, memory, &mut out[..k], text, at)
-}
-
-fn run_into(
-    console: Console,
-    allowance: u32,
-    memory: &mut [u8],
-    out: &mut [u8],
-    text: &mut [u8],
-    at: usize,
-) -> Told
-    ensures { λ r. ⌜ given r (now (memory .exit)) (now (text .exit)) ≡ tells (run console (now (memory .entry)) allowance (now (out .entry))) (now (text .entry)) at ⌝ }
-{
-    let n = front(memory, console.lent);
-    let device = console.device;
-    let r = device.run(&mut memory[..n], out, allowance);
-    let next = r.device;
-    let sent = memory::part(out, 0, r.count);
-    let end = replies::ran(text, at, b"run", r.number, r.steps, r.count, sent);
-    Told {
-        console: Console {
-            device: next,
-            lent: console.lent,
-            lines: console.lines,
-        },
-        end,
-    }
-}
-
-pub fn run(
-    console: Console,
-    allowance: u32,
-    room: u32,
-    memory: &mut [u8],
-    text: &mut [u8],
-    at: usize,
-) -> Told
-    ensures { λ r. ⌜ given r (now (memory .exit)) (now (text .exit)) ≡ tells (run console (now (memory .entry)) allowance (output room)) (now (text .entry)) at ⌝ }
-{
-    let mut out = largest();
-    let k = front(&out, room as usize);
-    run_into(console, allowance, memory, &mut out[..k], text, at)
 }

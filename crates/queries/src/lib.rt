@@ -8,7 +8,7 @@ pub fn read(device: Enet, offset: u32, text: &mut [u8], at: usize) -> usize
     ensures { λ r. ⌜ written r (now (text .exit)) ≡ put (now (text .entry)) at (readSays device offset) ⌝ }
 {
     let a = device.read(offset);
-    replies::read(text, at, b"read", a.number, a.value)
+    reports::read(text, at, b"read", a.number, a.value)
 }
 
 pub fn line(device: Enet, text: &mut [u8], at: usize) -> usize
@@ -21,7 +21,7 @@ pub fn show(device: Enet, address: u32, lent: &[u8], text: &mut [u8], at: usize)
     ensures { λ r. ⌜ written r (now (text .exit)) ≡ put (now (text .entry)) at (showSays device (now (lent .entry)) address) ⌝ }
 {
     let number = device.reading_number(lent, address);
-    replies::shown(text, at, b"show", number, device.reading(lent, address))
+    reports::shown(text, at, b"show", number, device.reading(lent, address))
 }
 
 pub fn ring(
@@ -44,7 +44,7 @@ pub fn state(device: Enet, text: &mut [u8], at: usize) -> usize
     let registers = device.registers;
     let rx = registers.rx;
     let tx = registers.tx;
-    replies::engines(
+    reports::engines(
         text,
         at,
         b"state",

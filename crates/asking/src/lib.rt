@@ -1,0 +1,67 @@
+// The console's calls that change nothing, by name.
+ghost use mathlib.Core.Path.{_≡_};
+ghost use Rattle.text.specs.Text.{written, put};
+ghost use Rattle.commands.specs.Answers.{answers, given, tells};
+ghost use Rattle.asking.specs.Says.{says};
+use commands::Console;
+use commands::Told;
+
+// The calls that change nothing.
+pub enum Query {
+    Read,
+    Line,
+    Show,
+    Ring,
+    Peek,
+    Check,
+    State,
+    Error,
+}
+
+// Writes what one of them says.
+fn said(
+    console: Console,
+    query: Query,
+    a: u32,
+    b: u32,
+    memory: &[u8],
+    text: &mut [u8],
+    at: usize,
+) -> usize
+    ensures { λ r. ⌜ written r (now (text .exit)) ≡ put (now (text .entry)) at (says query console (now (memory .entry)) a b) ⌝ }
+{
+    let device = console.device;
+    match query {
+        Query::Read => queries::read(device, a, text, at),
+        Query::Line => queries::line(device, text, at),
+        Query::Show => queries::show(device, a, memory::part(memory, 0, console.lent), text, at),
+        Query::Ring => queries::ring(
+            device,
+            a,
+            b,
+            memory::part(memory, 0, console.lent),
+            text,
+            at,
+        ),
+        Query::Peek => firmware::peek(device, a, b, memory, text, at),
+        Query::Check => firmware::check(device, memory, text, at),
+        Query::State => queries::state(device, text, at),
+        Query::Error => replies::numbered(text, at, b"error", console.lines),
+    }
+}
+
+// Answers with what one of them says; console and memory stay.
+pub fn told(
+    console: Console,
+    query: Query,
+    a: u32,
+    b: u32,
+    memory: &[u8],
+    text: &mut [u8],
+    at: usize,
+) -> Told
+    ensures { λ r. ⌜ given r (now (memory .entry)) (now (text .exit)) ≡ tells (answers console (now (memory .entry)) (says query console (now (memory .entry)) a b)) (now (text .entry)) at ⌝ }
+{
+    let end = said(console, query, a, b, memory, text, at);
+    Told { console, end }
+}

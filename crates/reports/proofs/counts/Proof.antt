@@ -1,0 +1,15 @@
+-- `reports::counts` meets its contract. Assumes nothing.
+use borrow.Author.Needs.{needs}
+use Rattle.reports.proofs.Laws.{counts-is}
+use Rattle.reports.proofs.counts.Statement.{statement}
+use Rattle.reports.proofs.counts.Tie as tie
+
+pub counts-spec : {M : Type 1} → statement M
+counts-spec =
+    tie.close
+    (tie.spec
+    (λ c κs. search needs)
+    (λ c κs. search needs)
+    (λ c κs. search needs)
+    (λ c. search needs)
+    (λ c. search counts-is))
