@@ -9,8 +9,8 @@ use Rattle.replies.specs.Replies.{numbered}
 use Rattle.commands.specs.declared.Console.{Console}
 use Rattle.commands.specs.Answers.{answers, given, tells}
 use Rattle.commands.specs.Commands.{readSays, lineSays, showSays, ringSays, peekSays, checkSays, stateSays, errorSays}
-use Rattle.asking.specs.declared.Query.{Query}
-use Rattle.asking.specs.declared.Query.the-variants.{Read, Line, Show, Ring, Peek, Check, State, Error}
+use Rattle.kinds.specs.declared.Query.{Query}
+use Rattle.kinds.specs.declared.Query.the-variants.{Read, Line, Show, Ring, Peek, Check, State, Error}
 use Rattle.asking.specs.Says.{says}
 
 module _ (c : Console) (m t : List ℕ) (a b at : ℕ) (k : Query) (x : Text) where

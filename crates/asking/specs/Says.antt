@@ -3,8 +3,8 @@ use Prim.Native.Nat.{ℕ}
 use mathlib.Core.List.{List}
 use Rattle.commands.specs.declared.Console.{Console}
 use Rattle.commands.specs.Commands.{lent, readSays, lineSays, showSays, ringSays, peekSays, checkSays, stateSays, errorSays}
-use Rattle.asking.specs.declared.Query.{Query}
-use Rattle.asking.specs.declared.Query.the-variants.{Read, Line, Show, Ring, Peek, Check, State, Error}
+use Rattle.kinds.specs.declared.Query.{Query}
+use Rattle.kinds.specs.declared.Query.the-variants.{Read, Line, Show, Ring, Peek, Check, State, Error}
 
 abbrev pub says : Query → Console → List ℕ → ℕ → ℕ → List ℕ
 says Read c m a b = readSays (c .device) a

@@ -5,18 +5,7 @@ ghost use Rattle.commands.specs.Answers.{answers, given, tells};
 ghost use Rattle.asking.specs.Says.{says};
 use commands::Console;
 use commands::Told;
-
-// The calls that change nothing.
-pub enum Query {
-    Read,
-    Line,
-    Show,
-    Ring,
-    Peek,
-    Check,
-    State,
-    Error,
-}
+use kinds::Query;
 
 // Writes what one of them says.
 fn said(

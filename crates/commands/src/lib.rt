@@ -1,5 +1,5 @@
 // What the bench console's commands do and write, as definitions (specs/, in the order of docs/CONSOLE.md), and the console's
-// state. The code stands in the crates above: replies, queries, firmware, lending, console.
+// state. The code stands in the crates above: queries, firmware, lending, outgoing, asking, acting, console.
 use enet::Enet;
 
 // The device, how much of the memory is lent to it, and how many lines have ended.

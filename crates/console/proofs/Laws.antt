@@ -1,14 +1,10 @@
--- Laws of the table of calls, one for each command, and of a line's answer. Assumes nothing.
+-- A command by its kind, and a line's answer. Assumes nothing.
 use Prim.Native.Nat.{ℕ, _+_, _%_, _^_}
-use mathlib.Core.Path.{_≡_}
+use mathlib.Core.Path.{_≡_, refl}
 use mathlib.Core.Bool.{Bool, true, false}
 use mathlib.Core.List.{List, []}
-use lib.ListN.{length, take}
 use Rattle.enet.specs.declared.Enet.{Enet}
-use Rattle.enet.specs.declared.Answered.{Answered}
-use Rattle.enet.specs.Device.{reset as resetBench, new as newBench}
-use Rattle.enet.specs.Access.{write as writeRegister}
-use Rattle.words.specs.Words.{characters, rest}
+use Rattle.enet.specs.Device.{reset as resetBench}
 use Rattle.script.specs.declared.Call.{Call}
 use Rattle.script.specs.declared.Command.{Command}
 use Rattle.script.specs.declared.Command.the-variants.{New, Lend, Read, Write, Line, Grant, Frame, Send, Run, Show, Ring, Poke, Peek, Check, State, Error}
@@ -16,67 +12,50 @@ use Rattle.script.specs.Calls.{callOf}
 use Rattle.text.specs.Text.{written, put}
 use Rattle.commands.specs.declared.Console.{Console}
 use Rattle.commands.specs.declared.Told.{Told}
-use Rattle.commands.specs.Answers.{Given, answers, withDevice, given, tells}
-use Rattle.replies.specs.Replies.{said, numbered}
-use Rattle.commands.specs.Commands.{zeros, output, named, new, lend, readSays, write, lineSays, grant, frame, send, run, showSays, ringSays, poke, peekSays, checkSays, stateSays, errorSays}
+use Rattle.commands.specs.Answers.{Answer, Given, answers, given, tells}
 use Rattle.commands.specs.Answering.{reset, answerTo, counted, silent, answer}
+use Rattle.kinds.specs.declared.Kind.{Kind}
+use Rattle.kinds.specs.declared.Kind.the-variants.{Asks, Acts}
+use Rattle.kinds.specs.declared.Query.{Query}
+use Rattle.kinds.specs.declared.Act.{Act}
+use Rattle.kinds.specs.Kinds.{kindOf}
+use Rattle.asking.specs.Says.{says}
+use Rattle.acting.specs.Acts.{acts}
 
-module _ (c : Console) (m line t : List ℕ) (a b at : ℕ) (k : Command) where
-  -- the calls that a function of their own makes whole
-  module _ (x : Given) where
-    pub new-called : k ≡ New → x ≡ tells (new c m a b) t at → x ≡ tells (answerTo k c m a b line) t at
-    new-called e h = rw e h
+-- ---- a command by its kind
 
-    pub grant-called : k ≡ Grant → x ≡ tells (grant c m a) t at → x ≡ tells (answerTo k c m a b line) t at
-    grant-called e h = rw e h
+byKind : Kind → Console → List ℕ → ℕ → ℕ → List ℕ → Answer
+byKind (Asks q) c m a b line = answers c m (says q c m a b)
+byKind (Acts x) c m a b line = acts x c m a b line
 
-    pub frame-called : (w : List ℕ) → k ≡ Frame → w ≡ rest line → x ≡ tells (frame c m (named w)) t at → x ≡ tells (answerTo k c m a b line) t at
-    frame-called w e r h = rw (e, ← r) h
+module _ (c : Console) (m line : List ℕ) (a b : ℕ) where
+  by-kind : (k : Command) → byKind (kindOf k) c m a b line ≡ answerTo k c m a b line
+  unfolding byKind
+  by-kind New = refl
+  by-kind Lend = refl
+  by-kind Read = refl
+  by-kind Write = refl
+  by-kind Line = refl
+  by-kind Grant = refl
+  by-kind Frame = refl
+  by-kind Send = refl
+  by-kind Run = refl
+  by-kind Show = refl
+  by-kind Ring = refl
+  by-kind Poke = refl
+  by-kind Peek = refl
+  by-kind Check = refl
+  by-kind State = refl
+  by-kind Error = refl
 
-    pub send-called : k ≡ Send → x ≡ tells (send c m (output a)) t at → x ≡ tells (answerTo k c m a b line) t at
-    send-called e h = rw e h
+  module _ (t : List ℕ) (at : ℕ) (k : Command) (kind : Kind) (e : kind ≡ kindOf k) (x : Given) where
+    pub asks-called : (q : Query) → kind ≡ Asks q → x ≡ tells (answers c m (says q c m a b)) t at → x ≡ tells (answerTo k c m a b line) t at
+    unfolding byKind
+    asks-called q p h = rw (← by-kind k, ← e, p) h
 
-    pub run-called : k ≡ Run → x ≡ tells (run c m a (output b)) t at → x ≡ tells (answerTo k c m a b line) t at
-    run-called e h = rw e h
-
-    pub poke-called : (v w : List ℕ) → k ≡ Poke → v ≡ rest line → w ≡ rest v → x ≡ tells (poke c m a (named w)) t at
-        → x ≡ tells (answerTo k c m a b line) t at
-    poke-called v w e q r h = rw (e, ← q, ← r) h
-
-    -- the calls that only say something
-    pub read-called : k ≡ Read → x ≡ tells (answers c m (readSays (c .device) a)) t at → x ≡ tells (answerTo k c m a b line) t at
-    read-called e h = rw e h
-
-    pub line-called : k ≡ Line → x ≡ tells (answers c m (lineSays (c .device))) t at → x ≡ tells (answerTo k c m a b line) t at
-    line-called e h = rw e h
-
-    pub show-called : k ≡ Show → x ≡ tells (answers c m (showSays (c .device) (take (c .lent) m) a)) t at → x ≡ tells (answerTo k c m a b line) t at
-    show-called e h = rw e h
-
-    pub ring-called : k ≡ Ring → x ≡ tells (answers c m (ringSays (c .device) (take (c .lent) m) a b)) t at → x ≡ tells (answerTo k c m a b line) t at
-    ring-called e h = rw e h
-
-    pub peek-called : k ≡ Peek → x ≡ tells (answers c m (peekSays (c .device) m a b)) t at → x ≡ tells (answerTo k c m a b line) t at
-    peek-called e h = rw e h
-
-    pub check-called : k ≡ Check → x ≡ tells (answers c m (checkSays (c .device) m)) t at → x ≡ tells (answerTo k c m a b line) t at
-    check-called e h = rw e h
-
-    pub state-called : k ≡ State → x ≡ tells (answers c m (stateSays (c .device))) t at → x ≡ tells (answerTo k c m a b line) t at
-    state-called e h = rw e h
-
-    pub error-called : k ≡ Error → x ≡ tells (answers c m (errorSays c)) t at → x ≡ tells (answerTo k c m a b line) t at
-    error-called e h = rw e h
-
-  pub write-called : (t′ : List ℕ) (r : Told) (w : Answered) → k ≡ Write → w ≡ writeRegister (c .device) a b → r .console ≡ withDevice c (w .device)
-      → written (r .end) t′ ≡ put t at (numbered (characters "write") (w .number)) → given r m t′ ≡ tells (answerTo k c m a b line) t at
-  unfolding write
-  write-called t′ r w e f p h = rw (e, ← f) (λ j. record { console = p j; memory = m; text = h j })
-
-  pub lend-called : (t′ : List ℕ) (r : Told) → k ≡ Lend → r .console ≡ record { device = c .device; lent = a; lines = c .lines }
-      → written (r .end) t′ ≡ put t at (said (characters "lend")) → given r m t′ ≡ tells (answerTo k c m a b line) t at
-  unfolding lend
-  lend-called t′ r e p h = rw e (λ j. record { console = p j; memory = m; text = h j })
+    pub acts-called : (act : Act) → kind ≡ Acts act → x ≡ tells (acts act c m a b line) t at → x ≡ tells (answerTo k c m a b line) t at
+    unfolding byKind
+    acts-called act p h = rw (← by-kind k, ← e, p) h
 
 -- ---- a line
 
@@ -97,16 +76,3 @@ module _ (c n : Console) (m line t : List ℕ) (at : ℕ) (quiet : Bool) (e : n 
       → x ≡ tells (answerTo (call .command) n m (call .a) (call .b) line) t at → x ≡ tells (answer c m line) t at
   unfolding answer
   answer-called call x q f h = rw (← s, q, ← f, ← e) h
-
--- ---- a new bench
-
-pub new-made : (c : Console) (m m′ t t′ : List ℕ) (at end base window : ℕ) (a : Answered) → m′ ≡ zeros (length m) → a ≡ newBench base window
-    → written end t′ ≡ put t at (numbered (characters "new") (a .number))
-    → given (record { console = record { device = a .device; lent = a .device .window; lines = c .lines }; end = end }) m′ t′
-    ≡ tells (new c m base window) t at
-unfolding new
-new-made c m m′ t t′ at end base window a e f h = rw (← f) (λ j. record {
-  console = record { device = a .device; lent = a .device .window; lines = c .lines };
-  memory = e j;
-  text = h j;
-})

@@ -1,15 +1,11 @@
 // The bench console (docs/CONSOLE.md): one line is answered by one line, in a buffer that the caller lends.
 ghost use mathlib.Core.Path.{_≡_};
-ghost use Rattle.words.specs.Words.{characters};
-ghost use Rattle.text.specs.Text.{written, put};
-ghost use Rattle.replies.specs.Replies.{said};
 ghost use Rattle.commands.specs.Answers.{given, tells};
-ghost use Rattle.commands.specs.Commands.{new};
 ghost use Rattle.commands.specs.Answering.{reset, answerTo, counted, silent, answer};
-use asking::Query;
 use commands::Console;
 use commands::Told;
 use enet::Enet;
+use kinds::Kind;
 use script::Command;
 
 // A line that writes nothing: an empty one, or a comment.
@@ -41,39 +37,6 @@ fn counted(mut console: Console) -> Console
     console
 }
 
-// Lends another length.
-fn lend(mut console: Console, n: u32, text: &mut [u8], at: usize) -> Told
-    ensures { λ r. ⌜ (r .console ≡ record { device = console .device; lent = n; lines = console .lines }) × (written (r .end) (now (text .exit)) ≡ put (now (text .entry)) at (said (characters "lend"))) ⌝ }
-{
-    console.lent = n as usize;
-    let end = replies::said(text, at, b"lend");
-    Told { console, end }
-}
-
-fn new(
-    console: Console,
-    base: u32,
-    length: u32,
-    memory: &mut [u8],
-    text: &mut [u8],
-    at: usize,
-) -> Told
-    ensures { λ r. ⌜ given r (now (memory .exit)) (now (text .exit)) ≡ tells (new console (now (memory .entry)) base length) (now (text .entry)) at ⌝ }
-{
-    firmware::clear(memory);
-    let a = Enet::new(base, length);
-    let device = a.device;
-    let end = replies::numbered(text, at, b"new", a.number as u64);
-    Told {
-        console: Console {
-            device,
-            lent: device.window as usize,
-            lines: console.lines,
-        },
-        end,
-    }
-}
-
 // Makes a call.
 fn make(
     console: Console,
@@ -87,29 +50,9 @@ fn make(
 ) -> Told
     ensures { λ r. ⌜ given r (now (memory .exit)) (now (text .exit)) ≡ tells (answerTo command console (now (memory .entry)) a b (now (line .entry))) (now (text .entry)) at ⌝ }
 {
-    match command {
-        Command::New => new(console, a, b, memory, text, at),
-        Command::Lend => lend(console, a, text, at),
-        Command::Read => asking::told(console, Query::Read, a, b, memory, text, at),
-        Command::Write => {
-            let device = console.device;
-            lending::answered(console, device.write(a, b), b"write", text, at)
-        }
-        Command::Line => asking::told(console, Query::Line, a, b, memory, text, at),
-        Command::Grant => lending::grant(console, a, memory, text, at),
-        Command::Frame => lending::frame(console, words::rest(line), memory, text, at),
-        Command::Send => outgoing::send(console, a, memory, text, at),
-        Command::Run => outgoing::run(console, a, b, memory, text, at),
-        Command::Show => asking::told(console, Query::Show, a, b, memory, text, at),
-        Command::Ring => asking::told(console, Query::Ring, a, b, memory, text, at),
-        Command::Poke => {
-            let word = words::rest(words::rest(line));
-            firmware::poke(console, a, word, memory, text, at)
-        }
-        Command::Peek => asking::told(console, Query::Peek, a, b, memory, text, at),
-        Command::Check => asking::told(console, Query::Check, a, b, memory, text, at),
-        Command::State => asking::told(console, Query::State, a, b, memory, text, at),
-        Command::Error => asking::told(console, Query::Error, a, b, memory, text, at),
+    match kinds::kind_of(command) {
+        Kind::Asks(query) => asking::told(console, query, a, b, memory, text, at),
+        Kind::Acts(act) => acting::acted(console, act, a, b, memory, line, text, at),
     }
 }
 

@@ -1,8 +1,8 @@
--- `console::new` meets its contract. Assumes nothing.
+-- `acting::new` meets its contract. Assumes nothing.
 use borrow.Author.Needs.{needs}
-use Rattle.console.proofs.Laws.{new-made}
-use Rattle.console.proofs.new.Statement.{statement}
-use Rattle.console.proofs.new.Tie as tie
+use Rattle.acting.proofs.Laws.{new-made}
+use Rattle.acting.proofs.new.Statement.{statement}
+use Rattle.acting.proofs.new.Tie as tie
 
 pub new-spec : {M : Type 1} → statement M
 new-spec =

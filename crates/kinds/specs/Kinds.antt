@@ -1,0 +1,25 @@
+-- The console's commands in two kinds: those that ask, and those that act. Assumes nothing.
+use Rattle.script.specs.declared.Command.{Command}
+use Rattle.script.specs.declared.Command.the-variants.{New, Lend, Read, Write, Line, Grant, Frame, Send, Run, Show, Ring, Poke, Peek, Check, State, Error}
+use Rattle.kinds.specs.declared.Kind.{Kind}
+use Rattle.kinds.specs.declared.Kind.the-variants.{Asks, Acts}
+use Rattle.kinds.specs.declared.Query.the-variants as query
+use Rattle.kinds.specs.declared.Act.the-variants as act
+
+abbrev pub kindOf : Command → Kind
+kindOf New = Acts act.New
+kindOf Lend = Acts act.Lend
+kindOf Read = Asks query.Read
+kindOf Write = Acts act.Write
+kindOf Line = Asks query.Line
+kindOf Grant = Acts act.Grant
+kindOf Frame = Acts act.Frame
+kindOf Send = Acts act.Send
+kindOf Run = Acts act.Run
+kindOf Show = Asks query.Show
+kindOf Ring = Asks query.Ring
+kindOf Poke = Acts act.Poke
+kindOf Peek = Asks query.Peek
+kindOf Check = Asks query.Check
+kindOf State = Asks query.State
+kindOf Error = Asks query.Error

@@ -1,0 +1,57 @@
+// The console's commands in two kinds: those that ask, and change nothing, and those that act.
+ghost use mathlib.Core.Path.{_≡_};
+ghost use Rattle.kinds.specs.Kinds.{kindOf};
+use script::Command;
+
+// The calls that change nothing.
+pub enum Query {
+    Read,
+    Line,
+    Show,
+    Ring,
+    Peek,
+    Check,
+    State,
+    Error,
+}
+
+// The calls that change the bench or what is lent.
+pub enum Act {
+    New,
+    Lend,
+    Write,
+    Grant,
+    Frame,
+    Send,
+    Run,
+    Poke,
+}
+
+pub enum Kind {
+    Asks(Query),
+    Acts(Act),
+}
+
+// The kind of a command.
+pub fn kind_of(command: Command) -> Kind
+    ensures { λ r. ⌜ r ≡ kindOf command ⌝ }
+{
+    match command {
+        Command::New => Kind::Acts(Act::New),
+        Command::Lend => Kind::Acts(Act::Lend),
+        Command::Read => Kind::Asks(Query::Read),
+        Command::Write => Kind::Acts(Act::Write),
+        Command::Line => Kind::Asks(Query::Line),
+        Command::Grant => Kind::Acts(Act::Grant),
+        Command::Frame => Kind::Acts(Act::Frame),
+        Command::Send => Kind::Acts(Act::Send),
+        Command::Run => Kind::Acts(Act::Run),
+        Command::Show => Kind::Asks(Query::Show),
+        Command::Ring => Kind::Asks(Query::Ring),
+        Command::Poke => Kind::Acts(Act::Poke),
+        Command::Peek => Kind::Asks(Query::Peek),
+        Command::Check => Kind::Asks(Query::Check),
+        Command::State => Kind::Asks(Query::State),
+        Command::Error => Kind::Asks(Query::Error),
+    }
+}
