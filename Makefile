@@ -50,20 +50,38 @@ host: library
 oracle: library
 	cd oracle && cargo build --release --offline --quiet --features library
 
-# What is not proved is compared with programs that share no code with the model.
+# What is not proved is compared with programs that share no code with the model: two tests at a time, the longest first.
 outside: programs host oracle
-	@echo '== the verdict program'
-	python3 tests/verdict.py target/bin/verdict
-	@echo '== the C bench host'
-	python3 tests/host.py target/host/host
-	@echo '== the independent model by itself'
-	cd oracle && cargo test --release --offline --quiet
-	@echo '== the C functions and the verdict program against the independent model'
-	$(ORACLE)/compare-frames target/bin/verdict
+	@$(MAKE) --no-print-directory -j2 --output-sync=target $(OUTSIDE)
+
+OUTSIDE = outside-console outside-model outside-frames outside-histories outside-verdict outside-host outside-report
+.PHONY: $(OUTSIDE)
+
+outside-console:
 	@echo '== the console against the independent model'
 	$(ORACLE)/compare-console target/bin/bench
+
+outside-model:
+	@echo '== the independent model by itself'
+	cd oracle && cargo test --release --offline --quiet
+
+outside-frames:
+	@echo '== the C functions and the verdict program against the independent model'
+	$(ORACLE)/compare-frames target/bin/verdict
+
+outside-histories:
 	@echo '== the claims on histories, by the independent model alone'
 	$(ORACLE)/histories
+
+outside-verdict:
+	@echo '== the verdict program'
+	python3 tests/verdict.py target/bin/verdict
+
+outside-host:
+	@echo '== the C bench host'
+	python3 tests/host.py target/host/host
+
+outside-report:
 	@echo '== the report of the sample day'
 	python3 tests/report.py target/bin/bench
 

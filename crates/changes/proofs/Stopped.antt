@@ -8,7 +8,8 @@ use lib.ListN.{length}
 use Rattle.window.specs.Window.{lent}
 use Rattle.sending.specs.Sending.{sendNumber, txRefused}
 use Rattle.enet.specs.declared.Enet.{Enet}
-use Rattle.enet.specs.Send.{refused, send}
+use Rattle.enet.specs.Send.{send}
+use Rattle.enet.proofs.Ways.{refused}
 use Rattle.enet.specs.Send as enet
 use Rattle.sending.specs.Send as plain
 use Rattle.sending.specs.Send.{sendAt}

@@ -1,34 +1,17 @@
 -- A single send: what it writes into the output, and what it leaves if it is refused. Assumes nothing.
 use Prim.Native.Nat.{ℕ, suc, _≤_}
 use mathlib.Core.Path.{_≡_, refl}
-use mathlib.Core.Bool.{false}
 use mathlib.Core.Logic.{_≢_, inr}
 use mathlib.Core.List.{List}
 use native.Mathlib.Omega.{arith}
-use lib.Dec.{ltb}
-use lib.ListN.{length, getD, take, drop, length-take}
+use lib.ListN.{length, getD}
 use borrow.Author.Tests.{ltb-false}
-use Rattle.rules.proofs.Choices.{or-parts}
 use Rattle.memory.proofs.Stores.{length-store, byte-apart}
-use Rattle.window.specs.Window.{offset}
-use Rattle.descriptor.specs.Descriptor.{count, start}
-use Rattle.wire.specs.Wire.{sendLengthWrong}
-use Rattle.wire.proofs.Laws.{length-wire}
-use Rattle.sending.specs.Sending.{payloadAt, wireAt}
+use Rattle.sending.specs.Sending.{wireAt}
+use Rattle.sending.proofs.Laws.{wire-at-bounds}
 use Rattle.enet.specs.declared.Enet.{Enet}
-use Rattle.enet.specs.Send.{Sending, refused, send}
-use Rattle.enet.proofs.Ways.{by-send}
-
--- "puts 64 to 1,518 bytes": with the padding and the check sequence
-pub wire-bounds : (base : ℕ) (m : List ℕ) (place : ℕ) → sendLengthWrong (count base m place) ≡ false
-    → (64 ≤ length (wireAt base m place)) × (length (wireAt base m place) ≤ 1518)
-unfolding sendLengthWrong payloadAt wireAt
-wire-bounds base m place h =
-    let n = count base m place in
-    let p = take n (drop (offset base (start base m place)) m) in
-    let k = ltb-false 1514 n (or-parts (ltb n 14) (ltb 1514 n) h .1) in
-    let l : length p ≤ 1514 = rw (length-take n (drop (offset base (start base m place)) m)) (omega arith) in
-    (omega (arith, length-wire p), omega (arith, length-wire p, l))
+use Rattle.enet.specs.Send.{Sending, send}
+use Rattle.enet.proofs.Ways.{refused, by-send}
 
 -- what a single send leaves of the output, and that its bytes fit
 pub record Written (out : List ℕ) (s : Sending) : Type 0 where
@@ -42,7 +25,7 @@ send-written d m out =
     by-send (Written out) d m out (same 11 _) (same 9 _) (same 3 _) (same 7 _) (same 8 _) (same 12 _)
     (λ o h.
     let w = wireAt (d .base) m (d .registers .tx .place) in
-    let most = wire-bounds (d .base) m (d .registers .tx .place) h .1 in
+    let most = wire-at-bounds (d .base) m (d .registers .tx .place) h .1 in
     record {
       fits = omega (arith, most, ltb-false (length out) 1518 o);
       same = length-store out 0 w;
@@ -55,7 +38,7 @@ sent-bounds d m out =
     let no : (n k : ℕ) → n ≡ suc k → (e : Enet) → refused n e m out .number ≡ 0 → (64 ≤ 0) × (0 ≤ 1518) = λ n k q e z. absurd (omega arith) in
     by-send (λ s. s .number ≡ 0 → (64 ≤ s .count) × (s .count ≤ 1518)) d m out
     (no 11 10 refl d) (no 9 8 refl d) (no 3 2 refl d) (no 7 6 refl d) (no 8 7 refl d) (no 12 11 refl d)
-    (λ o h _. wire-bounds (d .base) m (d .registers .tx .place) h)
+    (λ o h _. wire-at-bounds (d .base) m (d .registers .tx .place) h)
 
 -- a single send that is refused
 pub record Unsent (m out : List ℕ) (s : Sending) : Type 0 where

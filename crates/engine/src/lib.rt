@@ -37,7 +37,7 @@ impl Engine {
         self
     }
 
-    // The engine stops by itself.
+    // The engine stops; its registers and its place stay.
     pub fn stopped(mut self) -> Engine
         ensures { λ r. ⌜ r ≡ stopped self ⌝ }
     {

@@ -3,7 +3,7 @@
 ghost use mathlib.Core.Path.{_≡_};
 ghost use Rattle.packet_status.specs.PacketStatus.{packetStatus, granted, frameLength, withPacketStatus};
 
-// VALID, bit 16, at the DMA's level, and every other bit 0: the word of a granted descriptor.
+// VALID, bit 16, at the DMA's level, and every other bit 0: the word that a grant writes.
 pub const VALID: u32 = 0x0001_0000;
 
 // How many frame lengths there are: bits 10 to 0.

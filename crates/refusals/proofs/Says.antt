@@ -7,6 +7,7 @@ use Rattle.enet.proofs.Ways.{by-grant, by-receive}
 use Rattle.calls.specs.Calls.{Bench, Call, looks, registerWrite, grantCall, receiveCall, sendCall, stepRun, call}
 use Rattle.changes.specs.OneOf.{oneOf}
 use Rattle.changes.proofs.Branches.{by-new, by-write}
+use Rattle.changes.proofs.Nowhere.{changes-nowhere-else}
 use Rattle.refusals.specs.Numbers.{numbers, NumbersOf}
 use Rattle.refusals.specs.Rows.{rowOfNew}
 use Rattle.refusals.specs.Refusals.{ByRow, whole, RefusedLeaves}
@@ -66,6 +67,7 @@ pub refused-leaves : RefusedLeaves
 refused-leaves = record {
   ofNew = λ base window. by-new (λ a. a .number ≢ 0 → a ≡ rowOfNew) base window (λ h. absurd (h refl)) (λ _. refl);
   ofCall = λ b c. says b c .leaves;
+  ofRead = λ d offset _. changes-nowhere-else .registerRead d offset;
   ofReading = reading-row;
   emptyPart = empty-part;
 }

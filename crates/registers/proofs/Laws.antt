@@ -10,7 +10,7 @@ use Rattle.engine.specs.Engine.{engineReset}
 use Rattle.registers.specs.declared.Registers.{Registers}
 use Rattle.registers.specs.declared.Found.{Found}
 use Rattle.registers.specs.declared.Register.{Register}
-use Rattle.registers.specs.declared.Register.the-variants.{Ier, Isr, RxStart, RxNext, TxStart, TxNext, Mcr, Mah, Mal, Unmodelled}
+use Rattle.registers.specs.declared.Register.the-variants.{Unmodelled}
 use Rattle.registers.specs.Registers.{made, filterOf, reset, interruptLine}
 use Rattle.registers.specs.Access.{registerAt, valueOf, readNumber, read}
 
@@ -26,60 +26,22 @@ line-is r = refl
 
 -- ---- the register at an offset
 
-module _ (o : ℕ) where
-  pub at-04 : o ≡ 0x04 → Ier ≡ registerAt o
-  unfolding registerAt
-  at-04 e = rw e
-
-  pub at-08 : o ≡ 0x08 → Isr ≡ registerAt o
-  unfolding registerAt
-  at-08 e = rw e
-
-  pub at-10 : o ≡ 0x10 → RxStart ≡ registerAt o
-  unfolding registerAt
-  at-10 e = rw e
-
-  pub at-1c : o ≡ 0x1c → RxNext ≡ registerAt o
-  unfolding registerAt
-  at-1c e = rw e
-
-  pub at-30 : o ≡ 0x30 → TxStart ≡ registerAt o
-  unfolding registerAt
-  at-30 e = rw e
-
-  pub at-3c : o ≡ 0x3c → TxNext ≡ registerAt o
-  unfolding registerAt
-  at-3c e = rw e
-
-  pub at-400 : o ≡ 0x400 → Mcr ≡ registerAt o
-  unfolding registerAt
-  at-400 e = rw e
-
-  pub at-404 : o ≡ 0x404 → Mah ≡ registerAt o
-  unfolding registerAt
-  at-404 e = rw e
-
-  pub at-408 : o ≡ 0x408 → Mal ≡ registerAt o
-  unfolding registerAt
-  at-408 e = rw e
-
-  pub at-no-other : (o ≡ 0x04 → ⊥) → (o ≡ 0x08 → ⊥) → (o ≡ 0x10 → ⊥) → (o ≡ 0x1c → ⊥) → (o ≡ 0x30 → ⊥) → (o ≡ 0x3c → ⊥)
-      → (o ≡ 0x400 → ⊥) → (o ≡ 0x404 → ⊥) → (o ≡ 0x408 → ⊥) → Unmodelled ≡ registerAt o
-  unfolding registerAt
-  at-no-other a b c d e f g h i =
-      rw (
-        ne-eqb o 0x04 a,
-        ne-eqb o 0x08 b,
-        ne-eqb o 0x10 c,
-        ne-eqb o 0x1c d,
-        ne-eqb o 0x30 e,
-        ne-eqb o 0x3c f,
-        ne-eqb o 0x400 g,
-        ne-eqb o 0x404 h,
-        ne-eqb o 0x408 i,
-      )
-
-pub ruleset offsets = (at-04, at-08, at-10, at-1c, at-30, at-3c, at-400, at-404, at-408, at-no-other)
+-- none of the nine
+pub at-no-other : (o : ℕ) → (o ≡ 0x04 → ⊥) → (o ≡ 0x08 → ⊥) → (o ≡ 0x10 → ⊥) → (o ≡ 0x1c → ⊥) → (o ≡ 0x30 → ⊥) → (o ≡ 0x3c → ⊥)
+    → (o ≡ 0x400 → ⊥) → (o ≡ 0x404 → ⊥) → (o ≡ 0x408 → ⊥) → Unmodelled ≡ registerAt o
+unfolding registerAt
+at-no-other o a b c d e f g h i =
+    rw (
+      ne-eqb o 0x04 a,
+      ne-eqb o 0x08 b,
+      ne-eqb o 0x10 c,
+      ne-eqb o 0x1c d,
+      ne-eqb o 0x30 e,
+      ne-eqb o 0x3c f,
+      ne-eqb o 0x400 g,
+      ne-eqb o 0x404 h,
+      ne-eqb o 0x408 i,
+    )
 
 -- ---- a read
 

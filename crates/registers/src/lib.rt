@@ -15,7 +15,7 @@ pub struct Registers {
     pub tx: Engine,
 }
 
-// The modelled registers.
+// The modelled registers, and one case for every other offset.
 pub enum Register {
     Ier,
     Isr,

@@ -62,10 +62,18 @@ by-send-number P base window running place m room r11 r9 r3 r7 r8 r12 r0 =
     by-chain (λ k. P (k otherwise if sendLengthWrong n then 12 else 0)) base window m place n r7 r8
     (by-test P (sendLengthWrong n) 12 0 (λ _. r12) (r0 o)))))
 
+-- a count that is not row 12's has at most 1,514 bytes
+pub payload-short : (base : ℕ) (m : List ℕ) (place : ℕ) → sendLengthWrong (count base m place) ≡ false → length (payloadAt base m place) ≤ 1514
+unfolding sendLengthWrong payloadAt
+payload-short base m place w =
+    let k = count base m place in
+    let h = ltb-false 1514 k (or-parts (ltb k 14) (ltb 1514 k) w .1) in
+    rw (length-take k (drop (offset base (start base m place)) m)) (omega arith)
+
 -- what is sent finds its room in the output
 pub sent-fits : (base window : ℕ) (running : Bool) (place : ℕ) (m out : List ℕ) (n : ℕ)
     → n ≡ sendNumber base window running place m (length out) → n ≡ 0 → wireFits out (payloadAt base m place) ≡ true
-unfolding wireFits sendLengthWrong payloadAt
+unfolding wireFits
 sent-fits base window running place m out n e z =
     by-send-number (λ k. k ≡ 0 → wireFits out (payloadAt base m place) ≡ true) base window running place m (length out)
     (λ q. absurd (omega arith))
@@ -75,10 +83,7 @@ sent-fits base window running place m out n e z =
     (λ q. absurd (omega arith))
     (λ q. absurd (omega arith))
     (λ o w _.
-    let k = count base m place in
-    let h = ltb-false 1514 k (or-parts (ltb k 14) (ltb 1514 k) w .1) in
-    let p = take k (drop (offset base (start base m place)) m) in
-    let l : length p ≤ 1514 = rw (length-take k (drop (offset base (start base m place)) m)) (omega arith) in
-    and-yes (leb (length p) 1514) (leb 1518 (length out)) (le-leb (length p) 1514 l)
+    let p = payloadAt base m place in
+    and-yes (leb (length p) 1514) (leb 1518 (length out)) (le-leb (length p) 1514 (payload-short base m place w))
     (le-leb 1518 (length out) (ltb-false (length out) 1518 o)))
     (rw e at z)

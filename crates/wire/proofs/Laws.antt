@@ -58,9 +58,9 @@ length-wire p =
     ∙ length-append (padded p) (checkSequence (padded p))
     ∙ rw (length-padded p, length-sequence (padded p))
 
--- "puts 64 to 1,518 bytes": a payload of an allowed length
-pub wire-bounds : (p : List ℕ) → 14 ≤ length p → length p ≤ 1514 → (64 ≤ length (wire p)) × (length (wire p) ≤ 1518)
-wire-bounds p low high = rw (length-wire p) (omega arith, omega arith)
+-- "puts 64 to 1,518 bytes": a payload of at most 1,514; the padding makes up for one that is short
+pub wire-bounds : (p : List ℕ) → length p ≤ 1514 → (64 ≤ length (wire p)) × (length (wire p) ≤ 1518)
+wire-bounds p high = rw (length-wire p) (omega arith, omega arith)
 
 -- ---- stores one behind the other
 
