@@ -1,7 +1,6 @@
 // The calls of the device over the memory that it is lent. Each writes its line.
 ghost use mathlib.Core.Path.{_≡_};
-ghost use Prim.Native.Nat.{_≤_};
-ghost use lib.ListN.{length, take, drop};
+ghost use lib.ListN.{length};
 ghost use Rattle.enet.specs.Device.{outcome};
 ghost use Rattle.enet.specs.Frames.{receive};
 ghost use Rattle.text.specs.Text.{written, put};
@@ -13,14 +12,6 @@ use commands::Told;
 use enet::Answered;
 use enet::Enet;
 use forms::pairs;
-
-// n, or all of s where it is shorter.
-pub fn front(s: &[u8], n: usize) -> usize
-    ensures { λ r. ⌜ (r ≤ length (now (s .entry))) × (r ≡ length (take r (now (s .entry)))) ⌝ }
-    ensures { λ r. ⌜ (take r (now (s .entry)) ≡ take n (now (s .entry))) × (drop r (now (s .entry)) ≡ drop n (now (s .entry))) ⌝ }
-{
-    if n < s.len() { n } else { s.len() }
-}
 
 // The next device, and the line of a call that answers a number alone.
 pub fn answered(console: Console, a: Answered, name: &[u8], text: &mut [u8], at: usize) -> Told
@@ -41,7 +32,7 @@ pub fn answered(console: Console, a: Answered, name: &[u8], text: &mut [u8], at:
 pub fn grant(console: Console, address: u32, memory: &mut [u8], text: &mut [u8], at: usize) -> Told
     ensures { λ r. ⌜ given r (now (memory .exit)) (now (text .exit)) ≡ tells (grant console (now (memory .entry)) address) (now (text .entry)) at ⌝ }
 {
-    let n = front(memory, console.lent);
+    let n = commands::front(memory, console.lent);
     let device = console.device;
     let a = device.grant(&mut memory[..n], address);
     answered(console, a, b"grant", text, at)
@@ -66,7 +57,7 @@ fn received(device: Enet, word: &[u8], lent: &mut [u8]) -> Answered
 pub fn frame(console: Console, word: &[u8], memory: &mut [u8], text: &mut [u8], at: usize) -> Told
     ensures { λ r. ⌜ given r (now (memory .exit)) (now (text .exit)) ≡ tells (frame console (now (memory .entry)) (named (now (word .entry)))) (now (text .entry)) at ⌝ }
 {
-    let n = front(memory, console.lent);
+    let n = commands::front(memory, console.lent);
     let a = received(console.device, word, &mut memory[..n]);
     answered(console, a, b"frame", text, at)
 }

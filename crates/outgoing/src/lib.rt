@@ -22,7 +22,7 @@ fn send_into(
 ) -> Told
     ensures { λ r. ⌜ given r (now (memory .exit)) (now (text .exit)) ≡ tells (send console (now (memory .entry)) (now (out .entry))) (now (text .entry)) at ⌝ }
 {
-    let n = lending::front(memory, console.lent);
+    let n = commands::front(memory, console.lent);
     let device = console.device;
     let s = device.send(&mut memory[..n], out);
     let next = s.device;
@@ -41,7 +41,7 @@ pub fn send(console: Console, room: u32, memory: &mut [u8], text: &mut [u8], at:
     ensures { λ r. ⌜ given r (now (memory .exit)) (now (text .exit)) ≡ tells (send console (now (memory .entry)) (output room)) (now (text .entry)) at ⌝ }
 {
     let mut out = largest();
-    let k = lending::front(&out, room as usize);
+    let k = commands::front(&out, room as usize);
     send_into(console, memory, &mut out[..k], text, at)
 }
 
@@ -55,7 +55,7 @@ fn run_into(
 ) -> Told
     ensures { λ r. ⌜ given r (now (memory .exit)) (now (text .exit)) ≡ tells (run console (now (memory .entry)) allowance (now (out .entry))) (now (text .entry)) at ⌝ }
 {
-    let n = lending::front(memory, console.lent);
+    let n = commands::front(memory, console.lent);
     let device = console.device;
     let r = device.run(&mut memory[..n], out, allowance);
     let next = r.device;
@@ -82,6 +82,6 @@ pub fn run(
     ensures { λ r. ⌜ given r (now (memory .exit)) (now (text .exit)) ≡ tells (run console (now (memory .entry)) allowance (output room)) (now (text .entry)) at ⌝ }
 {
     let mut out = largest();
-    let k = lending::front(&out, room as usize);
+    let k = commands::front(&out, room as usize);
     run_into(console, allowance, memory, &mut out[..k], text, at)
 }
