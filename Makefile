@@ -7,6 +7,8 @@ WARNINGS = -std=c11 -O2 -Wall -Wextra -Werror
 SECONDS_TO_RUN ?= 60
 export CARGO_TARGET_DIR = $(CURDIR)/target/oracle
 export TOCKFEATHER_LIB_DIR = $(CURDIR)/target/staticlib
+# The prover's own files, in memory where there is room.
+export TMPDIR := $(shell tools/scratch)
 # Scripts leave no compiled files beside them.
 export PYTHONDONTWRITEBYTECODE = 1
 

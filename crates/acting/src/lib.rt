@@ -30,7 +30,7 @@ fn new(
 ) -> Told
     ensures { λ r. ⌜ given r (now (memory .exit)) (now (text .exit)) ≡ tells (new console (now (memory .entry)) base length) (now (text .entry)) at ⌝ }
 {
-    firmware::clear(memory);
+    poking::clear(memory);
     let a = Enet::new(base, length);
     let device = a.device;
     let end = replies::numbered(text, at, b"new", a.number as u64);
@@ -70,7 +70,7 @@ pub fn acted(
         Act::Run => outgoing::run(console, a, b, memory, text, at),
         Act::Poke => {
             let word = words::rest(words::rest(line));
-            firmware::poke(console, a, word, memory, text, at)
+            poking::poke(console, a, word, memory, text, at)
         }
     }
 }

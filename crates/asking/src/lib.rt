@@ -32,8 +32,8 @@ fn said(
             text,
             at,
         ),
-        Query::Peek => firmware::peek(device, a, b, memory, text, at),
-        Query::Check => firmware::check(device, memory, text, at),
+        Query::Peek => peeking::peek(device, a, b, memory, text, at),
+        Query::Check => peeking::check(device, memory, text, at),
         Query::State => queries::state(device, text, at),
         Query::Error => replies::numbered(text, at, b"error", console.lines),
     }

@@ -20,7 +20,8 @@ use Rattle.forms.specs.Pairs.{bytesOf}
 use Rattle.commands.specs.declared.Console.{Console}
 use Rattle.commands.specs.Answers.{Answer, answers, withDevice}
 use Rattle.replies.specs.Replies.{said, either, numbered, valued}
-use Rattle.reports.specs.Reports.{read as readLine, held, shown, ran, engines}
+use Rattle.reports.specs.Reports.{read as readLine, held, shown}
+use Rattle.long_reports.specs.LongReports.{ran, engines}
 
 -- "The device sees what is lent", the first bytes of memory; the others stay as they are
 abbrev pub lent : Console → List ℕ → List ℕ

@@ -1,5 +1,5 @@
 // What the bench console's commands do and write, as definitions (specs/, in the order of docs/CONSOLE.md), the console's
-// state, and how much of a buffer a command has. The code stands in the crates above: queries, firmware, lending, outgoing, asking, acting, console.
+// state, and how much of a buffer a command has. The code stands in the crates above: queries, peeking, poking, lending, outgoing, asking, acting, console.
 ghost use mathlib.Core.Path.{_≡_};
 ghost use Prim.Native.Nat.{_≤_};
 ghost use lib.ListN.{length, take, drop};

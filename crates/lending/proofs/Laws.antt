@@ -10,7 +10,7 @@ use Rattle.enet.specs.Frames.{grant as grantAt, receive}
 use Rattle.words.specs.Words.{characters}
 use Rattle.forms.specs.Pairs.{decoded, decode}
 use Rattle.text.specs.Text.{written, put}
-use Rattle.firmware.proofs.Laws.{named-is}
+use Rattle.commands.proofs.Named.{named-is}
 use Rattle.commands.specs.declared.Console.{Console}
 use Rattle.commands.specs.declared.Told.{Told}
 use Rattle.commands.specs.Answers.{answers, withDevice, given, tells}

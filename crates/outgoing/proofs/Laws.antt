@@ -9,7 +9,8 @@ use Rattle.enet.specs.Send.{sending, send as sendInto}
 use Rattle.enet.specs.Run.{running, run as runInto}
 use Rattle.words.specs.Words.{characters}
 use Rattle.text.specs.Text.{written, put}
-use Rattle.reports.specs.Reports.{shown, ran}
+use Rattle.reports.specs.Reports.{shown}
+use Rattle.long_reports.specs.LongReports.{ran}
 use Rattle.commands.specs.declared.Console.{Console}
 use Rattle.commands.specs.Answers.{Given, withDevice, given, tells}
 use Rattle.commands.specs.Commands.{zeros, output, send, run}

@@ -60,7 +60,7 @@ fn run_into(
     let r = device.run(&mut memory[..n], out, allowance);
     let next = r.device;
     let sent = memory::part(out, 0, r.count);
-    let end = reports::ran(text, at, b"run", r.number, r.steps, r.count, sent);
+    let end = long_reports::ran(text, at, b"run", r.number, r.steps, r.count, sent);
     Told {
         console: Console {
             device: next,

@@ -12,7 +12,8 @@ use Rattle.enet.specs.Access.{read as readRegister, interruptLine}
 use Rattle.words.specs.Words.{characters}
 use Rattle.text.specs.Text.{Text, put}
 use Rattle.replies.specs.Replies.{either}
-use Rattle.reports.specs.Reports.{read, shown, engines}
+use Rattle.reports.specs.Reports.{read, shown}
+use Rattle.long_reports.specs.LongReports.{engines}
 use Rattle.commands.specs.Commands.{readSays, lineSays, showSays, ringSays, stateSays}
 
 module _ (d : Enet) (t : List ℕ) (at : ℕ) (x : Text) where

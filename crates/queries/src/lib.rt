@@ -44,7 +44,7 @@ pub fn state(device: Enet, text: &mut [u8], at: usize) -> usize
     let registers = device.registers;
     let rx = registers.rx;
     let tx = registers.tx;
-    reports::engines(
+    long_reports::engines(
         text,
         at,
         b"state",

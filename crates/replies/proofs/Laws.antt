@@ -5,7 +5,7 @@ use mathlib.Core.Bool.{Bool, true, false}
 use mathlib.Core.List.{List, _++_}
 use Rattle.rules.specs.Choice.{if_then_else_}
 use Rattle.text.specs.Text.{Text, written, put}
-use Rattle.text.specs.Fields.{number, value}
+use Rattle.fields.specs.Fields.{number, value}
 use Rattle.text.proofs.Laws.{put-then}
 use Rattle.replies.specs.Replies.{newline, said, either, numbered, valued}
 

@@ -4,7 +4,7 @@ use mathlib.Core.Bool.{Bool}
 use mathlib.Core.List.{List, _++_}
 use Rattle.rules.specs.Choice.{if_then_else_}
 use Rattle.words.specs.Words.{characters}
-use Rattle.text.specs.Fields.{number, value}
+use Rattle.fields.specs.Fields.{number, value}
 
 -- "A line ends at a line feed"
 abbrev pub newline : List ℕ

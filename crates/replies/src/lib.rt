@@ -8,7 +8,7 @@ pub fn said(text: &mut [u8], at: usize, words: &[u8]) -> usize
     ensures { λ r. ⌜ written r (now (text .exit)) ≡ put (now (text .entry)) at (said (now (words .entry))) ⌝ }
 {
     let end = text::put(text, at, words);
-    text::put(text, end, b"\n")
+    text::character(text, end, b'\n')
 }
 
 // One of two.
@@ -26,8 +26,8 @@ pub fn numbered(text: &mut [u8], at: usize, name: &[u8], n: u64) -> usize
     ensures { λ r. ⌜ written r (now (text .exit)) ≡ put (now (text .entry)) at (numbered (now (name .entry)) n) ⌝ }
 {
     let end = text::put(text, at, name);
-    let end = text::number(text, end, n);
-    text::put(text, end, b"\n")
+    let end = fields::number(text, end, n);
+    text::character(text, end, b'\n')
 }
 
 // A name and a value.
@@ -35,6 +35,6 @@ pub fn valued(text: &mut [u8], at: usize, name: &[u8], v: u32) -> usize
     ensures { λ r. ⌜ written r (now (text .exit)) ≡ put (now (text .entry)) at (valued (now (name .entry)) v) ⌝ }
 {
     let end = text::put(text, at, name);
-    let end = text::value(text, end, v);
-    text::put(text, end, b"\n")
+    let end = fields::value(text, end, v);
+    text::character(text, end, b'\n')
 }

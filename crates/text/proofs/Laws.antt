@@ -1,21 +1,20 @@
 -- Laws of text: one text behind another is one text, and the ways out of the functions. Assumes nothing.
-use mathlib.Core.Path.{_≡_, refl, sym, ap, _∙_}
-use mathlib.Core.Bool.{Bool, true, false}
-use mathlib.Core.List.{List, [], _∷_, _++_, append-nil}
-use Prim.Native.Nat.{ℕ, zero, suc, _+_, _-_, _/_, _%_, _≤_, _<_}
+use mathlib.Core.Path.{_≡_, sym, ap, _∙_}
+use mathlib.Core.Bool.{false}
+use mathlib.Core.List.{List, [], _∷_, _++_}
+use Prim.Native.Nat.{ℕ, zero, suc, _+_, _-_, _≤_, _<_}
 use native.Mathlib.Nat.{add-zero, add-suc, suc-add}
-use native.Mathlib.Numerals.{add-one}
 use native.Mathlib.Omega.{arith}
-use borrow.Author.Tests.{lt-ltb, le-ltb, le-leb, lt-leb, leb-true, leb-false, eq-eqb, ne-eqb}
+use borrow.Author.Tests.{le-leb, lt-leb, leb-true, leb-false}
 use lib.Dec.{leb}
-use lib.ListN.{length, getD, set, drop, drop-of-length-le, length-append}
-use lib.Seq.{sets, set-out, length-sets, drop-cons}
+use lib.ListN.{length, set, length-append}
+use lib.Seq.{sets}
 use Rattle.rules.specs.Choice.{if_then_else_}
+use Rattle.rules.proofs.Choices.{by-bool}
 use Rattle.memory.specs.Memory.{store}
 use Rattle.memory.proofs.Laws.{store-out}
 use Rattle.memory.proofs.Stores.{length-store}
 use Rattle.text.specs.Text.{Text, written, endOf, put}
-use Rattle.text.specs.Fields.{digits, number, glyph, pairs, bytes, value}
 
 -- ---- where text ends
 
@@ -58,10 +57,6 @@ sets-append (x ∷ a) b t at = rw (add-suc at (length a), ← suc-add at (length
 pub store-append : (a b t : List ℕ) (at : ℕ) → store (store t at a) (at + length a) b ≡ store t at (a ++ b)
 unfolding store
 store-append a b t at = sets-append a b t at
-
-by-bool : {A : Type 0} (t : Bool) → (t ≡ true → A) → (t ≡ false → A) → A
-by-bool true f g = f refl
-by-bool false f g = g refl
 
 -- where the second begins it is stored whether the first had room or not
 behind : (a b t : List ℕ) (at : ℕ) → store (store t at a) (endOf (length t) at (length a)) b ≡ store t at (a ++ b)
