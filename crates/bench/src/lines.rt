@@ -1,19 +1,34 @@
 // Input into lines. A line is gathered in a buffer, since it may come in several chunks; what is past the buffer's end is
-// not kept.
+// not kept. The buffers are arrays and not slices: of an array's length nothing is left to prove.
 ghost use Prim.Native.Nat.{_<_, _≤_};
-ghost use lib.ListN.{length};
+
+// What one read takes at most.
+pub(crate) const CHUNK: usize = 65536;
+
+// One character more than the longest line, so that a longer one is seen to be too long.
+pub(crate) const LINE: usize = 4097;
+
+// Two of the longest answers.
+pub(crate) const TEXT: usize = 262144;
 
 // The longest answer: the digits of 65,536 bytes, and words and numbers of fewer than 64 characters.
 const LONGEST: usize = 131136;
 
-// How far reading and writing are.
+// So many bytes may wait before it.
+const MOST: usize = TEXT - LONGEST;
+
+// How far reading is, after a part of the input.
 pub(crate) struct Input {
     // What is left of the chunk at hand starts here,
     pub(crate) from: usize,
     // and ends here.
     pub(crate) to: usize,
-    // Characters of the line at hand that are kept.
+    // Characters of the line at hand so far.
     pub(crate) kept: usize,
+    // Whether the part ended a line,
+    pub(crate) ended: bool,
+    // and how many characters that line has.
+    pub(crate) last: usize,
     // Bytes of text that wait to be written.
     pub(crate) waiting: usize,
     // A proved loop has to end, and nothing says that an input does. So the parts that are taken of it are counted down,
@@ -21,93 +36,87 @@ pub(crate) struct Input {
     pub(crate) parts: u64,
 }
 
-// Before the first read.
-pub(crate) fn start() -> Input
-    ensures { λ r. ⌜ (r .from ≤ r .to) × (r .to ≤ 0) ⌝ }
-{
-    Input {
-        from: 0,
-        to: 0,
-        kept: 0,
-        waiting: 0,
-        parts: u64::MAX,
+// Writes what waits where it is more than `most`, and answers how much waits then.
+pub(crate) fn write_past(most: usize, text: &[u8; TEXT], waiting: usize) -> usize {
+    if waiting <= most {
+        return waiting;
     }
-}
-
-// Writes the first bytes of a text.
-pub(crate) fn write(text: &[u8], n: usize) {
-    io::write_all(libc::STDOUT_FILENO, memory::part(text, 0, n));
-}
-
-// Writes what waits where the longest answer has no room behind it, and answers how much waits then.
-fn make_room(text: &[u8], waiting: usize) -> usize {
-    if waiting <= text.len() {
-        if LONGEST <= text.len() - waiting {
-            return waiting;
-        }
-    }
-    write(text, waiting);
+    io::write_all(libc::STDOUT_FILENO, memory::part(text, 0, waiting));
     0
 }
 
-// Keeps the characters of `part` behind the first `kept` of a line, as many as there is room for, and answers how many are
-// kept then.
-fn keep(line: &mut [u8], kept: usize, part: &[u8]) -> usize {
-    memory::store(line, kept, part);
-    if kept <= line.len() {
-        if part.len() <= line.len() - kept {
-            return kept + part.len();
-        }
+// Keeps the n characters of a chunk from an index on behind the first `kept` of a line, as many as there is room for, and
+// answers how many the line has then.
+fn keep(line: &mut [u8; LINE], kept: usize, chunk: &[u8], from: usize, n: usize) -> usize {
+    memory::store(line, kept, memory::part(chunk, from, n));
+    if n <= usize::MAX - kept {
+        return kept + n;
     }
-    line.len()
+    usize::MAX
 }
 
-// Writes what waits, reads a chunk, and answers its length: 0 where the input has ended. So whoever types lines sees the
-// answer of each before the next read.
-fn read(chunk: &mut [u8], text: &[u8], waiting: usize) -> usize
-    ensures { λ r. ⌜ r ≤ length (now (chunk .exit)) ⌝ }
+// Writes what waits, and reads a chunk. So whoever types lines sees the answer of each before the next read. Where the input
+// ends, the last line is what no line feed followed, if only an empty one.
+fn refill(
+    chunk: &mut [u8; CHUNK],
+    text: &[u8; TEXT],
+    kept: usize,
+    waiting: usize,
+    parts: u64,
+) -> Input
+    requires { ⌜ 0 < parts ⌝ }
+    ensures { λ r. ⌜ (r .from ≤ r .to) × (r .to ≤ 65536) × (r .parts < parts) ⌝ }
 {
-    write(text, waiting);
+    write_past(0, text, waiting);
     let got = libc::read(libc::STDIN_FILENO, chunk);
-    io::count(got, chunk)
-}
-
-// Gathers the next line, and sees that its answer has room. Where the input ends, the last line is what no line feed
-// followed, if only an empty one.
-pub(crate) fn next(input: Input, chunk: &mut [u8], line: &mut [u8], text: &[u8]) -> Input
-    requires { ⌜ (input .from ≤ input .to) × (input .to ≤ length (now chunk)) × (0 < input .parts) ⌝ }
-    ensures { λ r. ⌜ (r .from ≤ r .to) × (r .to ≤ length (now (chunk .exit))) × (r .parts < input .parts) ⌝ }
-{
-    let mut from = input.from;
-    let mut to = input.to;
-    let mut kept = 0;
-    let mut waiting = make_room(text, input.waiting);
-    let mut parts = input.parts;
-    while parts > 0 {
-        parts -= 1;
-        let end = bytes::scan::find(chunk, from, to, b'\n');
-        kept = keep(line, kept, &chunk[from..end]);
-        if end < to {
-            return Input {
-                from: end + 1,
-                to,
-                kept,
-                waiting,
-                parts,
-            };
-        }
-        to = read(chunk, text, waiting);
-        if to == 0 {
-            break;
-        }
-        waiting = 0;
-        from = 0;
+    let to = io::count(got, chunk);
+    if to == 0 {
+        return Input {
+            from: 0,
+            to: 0,
+            kept: 0,
+            ended: true,
+            last: kept,
+            waiting: 0,
+            parts: 0,
+        };
     }
     Input {
         from: 0,
-        to: 0,
+        to,
         kept,
+        ended: false,
+        last: 0,
         waiting: 0,
-        parts: 0,
+        parts: parts - 1,
     }
+}
+
+// Takes a part of the input: what the chunk at hand has of the line at hand. Where it has the line's end, sees that the
+// line's answer has room; where not, goes to the next chunk.
+pub(crate) fn take(
+    input: Input,
+    waiting: usize,
+    chunk: &mut [u8; CHUNK],
+    line: &mut [u8; LINE],
+    text: &[u8; TEXT],
+) -> Input
+    requires { ⌜ (input .from ≤ input .to) × (input .to ≤ 65536) × (0 < input .parts) ⌝ }
+    ensures { λ r. ⌜ (r .from ≤ r .to) × (r .to ≤ 65536) × (r .parts < input .parts) ⌝ }
+{
+    let read: &[u8] = chunk;
+    let end = bytes::scan::find(read, input.from, input.to, b'\n');
+    let kept = keep(line, input.kept, read, input.from, end - input.from);
+    if end < input.to {
+        return Input {
+            from: end + 1,
+            to: input.to,
+            kept: 0,
+            ended: true,
+            last: kept,
+            waiting: write_past(MOST, text, waiting),
+            parts: input.parts - 1,
+        };
+    }
+    refill(chunk, text, kept, waiting, input.parts)
 }

@@ -2,32 +2,75 @@
 // docs/CONSOLE.md.
 mod lines;
 
-// Answers each line of the input.
-fn answer_all(memory: &mut [u8], chunk: &mut [u8], line: &mut [u8], text: &mut [u8]) {
-    let mut console = console::reset();
-    let mut input = lines::start();
-    while input.parts > 0 {
-        input = lines::next(input, chunk, line, text);
-        let told = console::answer(
+ghost use Prim.Native.Nat.{_≤_};
+use commands::Console;
+use commands::Told;
+use lines::Input;
+
+// The greatest window, and eight bytes to lend too much.
+const MEMORY: usize = 65544;
+
+// Answers the line that a part of the input ended, where it ended one.
+fn answered(
+    console: Console,
+    input: Input,
+    memory: &mut [u8; MEMORY],
+    line: &[u8; lines::LINE],
+    text: &mut [u8; lines::TEXT],
+) -> Told {
+    if input.ended {
+        return console::answer(
             console,
             memory,
-            memory::part(line, 0, input.kept),
+            memory::part(line, 0, input.last),
             text,
             input.waiting,
         );
-        console = told.console;
-        input.waiting = told.end;
     }
-    lines::write(text, input.waiting);
+    Told {
+        console,
+        end: input.waiting,
+    }
+}
+
+// Answers each line of the input, and gives how much of the text waits to be written at its end. What comes before the
+// first part and after the last is left to the caller: a loop's check takes the longer, the more its function does.
+fn answer_all(
+    mut told: Told,
+    mut input: Input,
+    memory: &mut [u8; MEMORY],
+    chunk: &mut [u8; lines::CHUNK],
+    line: &mut [u8; lines::LINE],
+    text: &mut [u8; lines::TEXT],
+) -> usize
+    requires { ⌜ (input .from ≤ input .to) × (input .to ≤ 65536) ⌝ }
+{
+    while input.parts > 0 {
+        input = lines::take(input, told.end, chunk, line, text);
+        told = answered(told.console, input, memory, line, text);
+    }
+    told.end
 }
 
 fn main() {
-    // The greatest window, and eight bytes to lend too much.
-    let mut memory = [0u8; 65544];
-    let mut chunk = io::large_buffer();
-    // One character more than the longest line, so that a longer one is seen to be too long.
-    let mut line = [0u8; 4097];
-    // Two of the longest answers.
-    let mut text = [0u8; 262144];
-    answer_all(&mut memory, &mut chunk, &mut line, &mut text);
+    let mut memory = [0u8; MEMORY];
+    let mut chunk = [0u8; lines::CHUNK];
+    let mut line = [0u8; lines::LINE];
+    let mut text = [0u8; lines::TEXT];
+    let told = Told {
+        console: console::reset(),
+        end: 0,
+    };
+    // Before the first read.
+    let input = Input {
+        from: 0,
+        to: 0,
+        kept: 0,
+        ended: false,
+        last: 0,
+        waiting: 0,
+        parts: u64::MAX,
+    };
+    let end = answer_all(told, input, &mut memory, &mut chunk, &mut line, &mut text);
+    lines::write_past(0, &text, end);
 }
