@@ -15,14 +15,11 @@ use Rattle.replies.specs.Replies.{said, numbered}
 use Rattle.commands.specs.Commands.{zeros, output, named, new, lend, write, grant, frame, send, run, poke}
 use Rattle.kinds.specs.declared.Act.{Act}
 use Rattle.kinds.specs.declared.Act.the-variants.{New, Lend, Write, Grant, Frame, Send, Run, Poke}
-use Rattle.acting.specs.Acts.{acts}
+use Rattle.acting.specs.Acts.{benched, acts}
 
 module _ (c : Console) (m line t : List ℕ) (a b at : ℕ) (k : Act) where
   -- the calls that a function of their own makes whole
   module _ (x : Given) where
-    pub new-called : k ≡ New → x ≡ tells (new c m a b) t at → x ≡ tells (acts k c m a b line) t at
-    new-called e h = rw e h
-
     pub grant-called : k ≡ Grant → x ≡ tells (grant c m a) t at → x ≡ tells (acts k c m a b line) t at
     grant-called e h = rw e h
 
@@ -49,15 +46,14 @@ module _ (c : Console) (m line t : List ℕ) (a b at : ℕ) (k : Act) where
   unfolding lend
   lend-called t′ r e p h = rw e (λ j. record { console = p j; memory = m; text = h j })
 
+  pub new-called : (m′ t′ : List ℕ) (r : Told) → k ≡ New → m′ ≡ zeros (length m) → r .console ≡ benched c (newBench a b)
+      → written (r .end) t′ ≡ put t at (numbered (characters "new") (newBench a b .number)) → given r m′ t′ ≡ tells (acts k c m a b line) t at
+  unfolding new
+  new-called m′ t′ r e z p h = rw e (λ j. record { console = p j; memory = z j; text = h j })
+
 -- ---- a new bench
 
-pub new-made : (c : Console) (m m′ t t′ : List ℕ) (at end base window : ℕ) (a : Answered) → m′ ≡ zeros (length m) → a ≡ newBench base window
-    → written end t′ ≡ put t at (numbered (characters "new") (a .number))
-    → given (record { console = record { device = a .device; lent = a .device .window; lines = c .lines }; end = end }) m′ t′
-    ≡ tells (new c m base window) t at
-unfolding new
-new-made c m m′ t t′ at end base window a e f h = rw (← f) (λ j. record {
-  console = record { device = a .device; lent = a .device .window; lines = c .lines };
-  memory = e j;
-  text = h j;
-})
+pub new-made : (c : Console) (t t′ : List ℕ) (at base window : ℕ) (r : Told) (a : Answered) → a ≡ newBench base window → r .console ≡ benched c a
+    → written (r .end) t′ ≡ put t at (numbered (characters "new") (a .number))
+    → (r .console ≡ benched c (newBench base window)) × (written (r .end) t′ ≡ put t at (numbered (characters "new") (newBench base window .number)))
+new-made c t t′ at base window r a f p h = rw (← f) (p, h)

@@ -2,10 +2,10 @@
 ghost use mathlib.Core.Path.{_≡_};
 ghost use Rattle.words.specs.Words.{characters};
 ghost use Rattle.text.specs.Text.{written, put};
-ghost use Rattle.replies.specs.Replies.{said};
+ghost use Rattle.replies.specs.Replies.{said, numbered};
+ghost use Rattle.enet.specs.Device.{new as newBench};
 ghost use Rattle.commands.specs.Answers.{given, tells};
-ghost use Rattle.commands.specs.Commands.{new};
-ghost use Rattle.acting.specs.Acts.{acts};
+ghost use Rattle.acting.specs.Acts.{benched, acts};
 use commands::Console;
 use commands::Told;
 use enet::Enet;
@@ -20,28 +20,15 @@ fn lend(mut console: Console, n: u32, text: &mut [u8], at: usize) -> Told
     Told { console, end }
 }
 
-fn new(
-    console: Console,
-    base: u32,
-    length: u32,
-    memory: &mut [u8],
-    text: &mut [u8],
-    at: usize,
-) -> Told
-    ensures { λ r. ⌜ given r (now (memory .exit)) (now (text .exit)) ≡ tells (new console (now (memory .entry)) base length) (now (text .entry)) at ⌝ }
+// A new bench, whose window is lent.
+fn new(mut console: Console, base: u32, length: u32, text: &mut [u8], at: usize) -> Told
+    ensures { λ r. ⌜ r .console ≡ benched console (newBench base length) ⌝ }
+    ensures { λ r. ⌜ written (r .end) (now (text .exit)) ≡ put (now (text .entry)) at (numbered (characters "new") (newBench base length .number)) ⌝ }
 {
-    poking::clear(memory);
     let a = Enet::new(base, length);
     let device = a.device;
-    let end = replies::numbered(text, at, b"new", a.number as u64);
-    Told {
-        console: Console {
-            device,
-            lent: device.window as usize,
-            lines: console.lines,
-        },
-        end,
-    }
+    console.lent = device.window as usize;
+    lending::answered(console, a, b"new", text, at)
 }
 
 // Makes one of them.
@@ -58,12 +45,12 @@ pub fn acted(
     ensures { λ r. ⌜ given r (now (memory .exit)) (now (text .exit)) ≡ tells (acts act console (now (memory .entry)) a b (now (line .entry))) (now (text .entry)) at ⌝ }
 {
     match act {
-        Act::New => new(console, a, b, memory, text, at),
-        Act::Lend => lend(console, a, text, at),
-        Act::Write => {
-            let device = console.device;
-            lending::answered(console, device.write(a, b), b"write", text, at)
+        Act::New => {
+            poking::clear(memory);
+            new(console, a, b, text, at)
         }
+        Act::Lend => lend(console, a, text, at),
+        Act::Write => lending::answered(console, console.device.write(a, b), b"write", text, at),
         Act::Grant => lending::grant(console, a, memory, text, at),
         Act::Frame => lending::frame(console, words::rest(line), memory, text, at),
         Act::Send => outgoing::send(console, a, memory, text, at),

@@ -19,22 +19,27 @@ fn said(
 ) -> usize
     ensures { λ r. ⌜ written r (now (text .exit)) ≡ put (now (text .entry)) at (says query console (now (memory .entry)) a b) ⌝ }
 {
-    let device = console.device;
     match query {
-        Query::Read => queries::read(device, a, text, at),
-        Query::Line => queries::line(device, text, at),
-        Query::Show => queries::show(device, a, memory::part(memory, 0, console.lent), text, at),
+        Query::Read => queries::read(console.device, a, text, at),
+        Query::Line => queries::line(console.device, text, at),
+        Query::Show => queries::show(
+            console.device,
+            a,
+            memory::part(memory, 0, console.lent),
+            text,
+            at,
+        ),
         Query::Ring => queries::ring(
-            device,
+            console.device,
             a,
             b,
             memory::part(memory, 0, console.lent),
             text,
             at,
         ),
-        Query::Peek => peeking::peek(device, a, b, memory, text, at),
-        Query::Check => peeking::check(device, memory, text, at),
-        Query::State => queries::state(device, text, at),
+        Query::Peek => peeking::peek(console.device, a, b, memory, text, at),
+        Query::Check => peeking::check(console.device, memory, text, at),
+        Query::State => queries::state(console.device, text, at),
         Query::Error => replies::numbered(text, at, b"error", console.lines),
     }
 }

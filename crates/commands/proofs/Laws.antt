@@ -1,21 +1,30 @@
--- The ways out of `front`. Assumes nothing.
-use Prim.Native.Nat.{ℕ, _≤_, _<_}
-use mathlib.Core.Path.{_≡_, refl, sym, ap, _∙_}
-use mathlib.Core.List.{List, []}
+-- A list cut within its length, as `within` says it. Assumes nothing.
+use Prim.Native.Nat.{ℕ, zero, suc, _≤_, min}
+use mathlib.Core.Path.{_≡_}
+use mathlib.Core.List.{List, [], _∷_}
+use native.Mathlib.Nat.{zero-min, min-zero, suc-min-suc}
 use native.Mathlib.Omega.{arith}
-use lib.ListN.{length, take, drop, length-take, drop-of-length-le}
-use lib.Seq.{take-all}
+use lib.ListN.{length, take, drop, length-take}
 
--- all of a list, where as many are asked for or more
-pub front-all : (s : List ℕ) (n : ℕ) → length s ≤ n
-    → ((length s ≤ length s) × (length s ≡ length (take (length s) s))) × ((take (length s) s ≡ take n s) × (drop (length s) s ≡ drop n s))
-front-all s n h =
-    let a : take (length s) s ≡ s = take-all (length s) s (omega arith) in
-    let b : take n s ≡ s = take-all n s h in
-    let c : drop (length s) s ≡ [] = drop-of-length-le s {i = length s} (omega arith) in
-    let d : drop n s ≡ [] = drop-of-length-le s {i = n} h in
-    ((omega arith, sym (ap length a)), (a ∙ sym b, c ∙ sym d))
+take-within : (n : ℕ) (s : List ℕ) → take (min n (length s)) s ≡ take n s
+take-within zero s = rw zero-min
+take-within (suc n) [] = rw min-zero
+take-within (suc n) (x ∷ s) = rw (suc-min-suc, take-within n s)
 
-pub front-part : (s : List ℕ) (n : ℕ) → n < length s
-    → ((n ≤ length s) × (n ≡ length (take n s))) × ((take n s ≡ take n s) × (drop n s ≡ drop n s))
-front-part s n h = ((omega arith, simp length-take (omega arith)), (refl, refl))
+drop-within : (n : ℕ) (s : List ℕ) → drop (min n (length s)) s ≡ drop n s
+drop-within zero s = rw zero-min
+drop-within (suc n) [] = rw min-zero
+drop-within (suc n) (x ∷ s) = rw suc-min-suc (drop-within n s)
+
+module _ (s : List ℕ) (n l r : ℕ) (q : l ≡ length s) (e : r ≡ min n l) where
+  pub within-fits : r ≤ length s
+  within-fits = omega arith
+
+  pub within-long : r ≡ length (take r s)
+  within-long = simp length-take (omega arith)
+
+  pub within-seen : take r s ≡ take n s
+  within-seen = rw (e, q) (take-within n s)
+
+  pub within-kept : drop r s ≡ drop n s
+  within-kept = rw (e, q) (drop-within n s)

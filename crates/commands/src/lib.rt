@@ -1,8 +1,9 @@
 // What the bench console's commands do and write, as definitions (specs/, in the order of docs/CONSOLE.md), the console's
-// state, and how much of a buffer a command has. The code stands in the crates above: queries, peeking, poking, lending, outgoing, asking, acting, console.
+// state, its next state, and how much of a buffer a command has. The code stands in the crates above: queries, peeking, poking,
+// lending, outgoing, asking, acting, console.
 ghost use mathlib.Core.Path.{_≡_};
-ghost use Prim.Native.Nat.{_≤_};
-ghost use lib.ListN.{length, take, drop};
+ghost use Prim.Native.Nat.{min};
+ghost use Rattle.commands.specs.Answers.{withDevice};
 use enet::Enet;
 
 // The device, how much of the memory is lent to it, and how many lines have ended.
@@ -18,10 +19,23 @@ pub struct Told {
     pub end: usize,
 }
 
-// n, or all of s where it is shorter.
-pub fn front(s: &[u8], n: usize) -> usize
-    ensures { λ r. ⌜ (r ≤ length (now (s .entry))) × (r ≡ length (take r (now (s .entry)))) ⌝ }
-    ensures { λ r. ⌜ (take r (now (s .entry)) ≡ take n (now (s .entry))) × (drop r (now (s .entry)) ≡ drop n (now (s .entry))) ⌝ }
+// n, or all of a buffer's length where that is less.
+pub fn within(n: usize, length: usize) -> usize
+    ensures { λ r. ⌜ r ≡ min n length ⌝ }
 {
-    if n < s.len() { n } else { s.len() }
+    if n < length { n } else { length }
+}
+
+// The next console after a call of the device, which gave back the next device.
+pub fn next(console: Console, device: Enet, end: usize) -> Told
+    ensures { λ r. ⌜ r ≡ record { console = withDevice console device; end = end } ⌝ }
+{
+    Told {
+        console: Console {
+            device,
+            lent: console.lent,
+            lines: console.lines,
+        },
+        end,
+    }
 }

@@ -62,7 +62,7 @@ pub fn answer(console: Console, memory: &mut [u8], line: &[u8], text: &mut [u8],
 {
     let console = counted(console);
     if silent(line) {
-        let end = text::put(text, at, b"");
+        let end = commands::within(at, text.len());
         return Told { console, end };
     }
     let call = script::call_of(line);

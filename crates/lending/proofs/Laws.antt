@@ -3,7 +3,6 @@ use Prim.Native.Nat.{ℕ}
 use mathlib.Core.Path.{_≡_, refl, ap, _∙_}
 use mathlib.Core.List.{List, _++_}
 use lib.ListN.{length, take, drop}
-use Rattle.enet.specs.declared.Enet.{Enet}
 use Rattle.enet.specs.declared.Answered.{Answered}
 use Rattle.enet.specs.Device.{Outcome, outcome}
 use Rattle.enet.specs.Frames.{grant as grantAt, receive}
@@ -40,20 +39,18 @@ module _ (c : Console) (m t t′ : List ℕ) (at : ℕ) (r : Told) where
     unfolding grant
     grant-made address a l′ p e h = part (characters "grant") l′ a _ (rw seen at p) e h
 
-    pub frame-made : (s : List ℕ) (a : Answered) (l′ : List ℕ) → outcome a l′ ≡ receive (c .device) (take n m) s
-        → r .console ≡ withDevice c (a .device) → written (r .end) t′ ≡ put t at (numbered (characters "frame") (a .number))
-        → given r (l′ ++ drop n m) t′ ≡ tells (frame c m s) t at
+    -- of a frame that a word names
+    pub frame-made : (word out out′ s : List ℕ) (k : ℕ) (a : Answered) (l′ : List ℕ) → 2048 ≡ length out → decoded k out′ ≡ decode word out
+        → s ≡ take k out′ → outcome a l′ ≡ receive (c .device) (take n m) s → r .console ≡ withDevice c (a .device)
+        → written (r .end) t′ ≡ put t at (numbered (characters "frame") (a .number))
+        → given r (l′ ++ drop n m) t′ ≡ tells (frame c m (named word)) t at
     unfolding frame
-    frame-made s a l′ p e h = part (characters "frame") l′ a _ (rw seen at p) e h
-
--- ---- a frame that a word names
-
-pub received-is : (word out out′ s : List ℕ) (n : ℕ) (d : Enet) (m : List ℕ) (x : Outcome) → 2048 ≡ length out → decoded n out′ ≡ decode word out
-    → s ≡ take n out′ → x ≡ receive d m s → x ≡ receive d m (named word)
-received-is word out out′ s n d m x l e p h = h ∙ ap (receive d m) (p ∙ named-is word out out′ n l e)
+    frame-made word out out′ s k a l′ l d q p e h =
+        let w : s ≡ named word = q ∙ named-is word out out′ k l d in part (characters "frame") l′ a _ (rw (seen, w) at p) e h
 
 -- ---- the line of a call that answers a number alone
 
-pub answered-is : (c : Console) (a : Answered) (t t′ name : List ℕ) (at end : ℕ) → written end t′ ≡ put t at (numbered name (a .number))
-    → (withDevice c (a .device) ≡ withDevice c (a .device)) × (written end t′ ≡ put t at (numbered name (a .number)))
-answered-is c a t t′ name at end h = (refl, h)
+pub answered-is : (c : Console) (a : Answered) (t t′ name : List ℕ) (at end : ℕ) (r : Told) → r ≡ record { console = withDevice c (a .device); end = end }
+    → written end t′ ≡ put t at (numbered name (a .number))
+    → (r .console ≡ withDevice c (a .device)) × (written (r .end) t′ ≡ put t at (numbered name (a .number)))
+answered-is c a t t′ name at end r e h = rw e (refl, h)

@@ -1,8 +1,6 @@
 // The calls of the device over the memory that it is lent. Each writes its line.
 ghost use mathlib.Core.Path.{_≡_};
 ghost use lib.ListN.{length};
-ghost use Rattle.enet.specs.Device.{outcome};
-ghost use Rattle.enet.specs.Frames.{receive};
 ghost use Rattle.text.specs.Text.{written, put};
 ghost use Rattle.commands.specs.Answers.{given, tells, withDevice};
 ghost use Rattle.commands.specs.Commands.{named, grant, frame};
@@ -10,31 +8,22 @@ ghost use Rattle.replies.specs.Replies.{numbered};
 use commands::Console;
 use commands::Told;
 use enet::Answered;
-use enet::Enet;
 use forms::pairs;
 
 // The next device, and the line of a call that answers a number alone.
 pub fn answered(console: Console, a: Answered, name: &[u8], text: &mut [u8], at: usize) -> Told
     ensures { λ r. ⌜ (r .console ≡ withDevice console (a .device)) × (written (r .end) (now (text .exit)) ≡ put (now (text .entry)) at (numbered (now (name .entry)) (a .number))) ⌝ }
 {
-    let device = a.device;
-    let end = replies::numbered(text, at, name, a.number as u64);
-    Told {
-        console: Console {
-            device,
-            lent: console.lent,
-            lines: console.lines,
-        },
-        end,
-    }
+    let n = a.number as u64;
+    let end = replies::numbered(text, at, name, n);
+    commands::next(console, a.device, end)
 }
 
 pub fn grant(console: Console, address: u32, memory: &mut [u8], text: &mut [u8], at: usize) -> Told
     ensures { λ r. ⌜ given r (now (memory .exit)) (now (text .exit)) ≡ tells (grant console (now (memory .entry)) address) (now (text .entry)) at ⌝ }
 {
-    let n = commands::front(memory, console.lent);
-    let device = console.device;
-    let a = device.grant(&mut memory[..n], address);
+    let n = commands::within(console.lent, memory.len());
+    let a = console.device.grant(&mut memory[..n], address);
     answered(console, a, b"grant", text, at)
 }
 
@@ -45,19 +34,14 @@ fn blank() -> [u8; 2048]
     [0; 2048]
 }
 
-// A frame that a word names comes into lent memory.
-fn received(device: Enet, word: &[u8], lent: &mut [u8]) -> Answered
-    ensures { λ r. ⌜ outcome r (now (lent .exit)) ≡ receive device (now (lent .entry)) (named (now (word .entry))) ⌝ }
-{
-    let mut bytes = blank();
-    let n = pairs::decode(word, &mut bytes);
-    device.receive(lent, memory::part(&bytes, 0, n))
-}
-
 pub fn frame(console: Console, word: &[u8], memory: &mut [u8], text: &mut [u8], at: usize) -> Told
     ensures { λ r. ⌜ given r (now (memory .exit)) (now (text .exit)) ≡ tells (frame console (now (memory .entry)) (named (now (word .entry)))) (now (text .entry)) at ⌝ }
 {
-    let n = commands::front(memory, console.lent);
-    let a = received(console.device, word, &mut memory[..n]);
+    let mut bytes = blank();
+    let n = pairs::decode(word, &mut bytes);
+    let k = commands::within(console.lent, memory.len());
+    let a = console
+        .device
+        .receive(&mut memory[..k], memory::part(&bytes, 0, n));
     answered(console, a, b"frame", text, at)
 }

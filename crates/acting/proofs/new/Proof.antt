@@ -9,11 +9,12 @@ new-spec =
     tie.close
     (tie.spec
     (λ c κs. search needs)
-    (λ c κs. search needs)
     (λ c. search needs)
     (λ c. search needs)
     (λ c κs. search needs)
     (λ c. search needs)
-    (λ c. search needs)
-    (λ c. search needs)
-    (λ c. search new-made))
+    (λ c.
+    let e = c .before .before .before .before .before .before .before .before .before .args in
+    let a = c .before .before .answered in
+    let f = c .before .before .before .before .before .before .before .new in
+    new-made (e .console) _ _ _ _ _ _ _ (f .ensures) (a .ensures .0) (a .ensures .1)))

@@ -10,9 +10,7 @@ answer-spec =
     (tie.spec
     (λ c κs. search needs)
     (λ c κs. search needs)
-    (λ c. search needs)
     (λ c κs. search needs)
-    (λ c. search needs)
     (λ c. search answer-silent)
     (λ c κs. search needs)
     (λ c κs. search needs)

@@ -9,4 +9,4 @@ counted-spec =
     tie.close
     (tie.spec
     (λ c κs. search needs)
-    (λ c. search counted-is))
+    (λ c. counted-is _ _ (c .wrapping-add-u64 .ensures)))

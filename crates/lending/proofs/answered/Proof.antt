@@ -10,5 +10,9 @@ answered-spec =
     (tie.spec
     (λ c. search needs)
     (λ c κs. search needs)
+    (λ c κs. search needs)
     (λ c. search needs)
-    (λ c. search answered-is))
+    (λ c.
+    let e = c .before .before .before .before .before .before .before .before .args in
+    let h = c .before .before .before .numbered in
+    answered-is (e .console) _ _ _ _ _ _ _ (c .next .ensures) (h .ensures)))

@@ -1,5 +1,7 @@
 -- `lending::frame` meets its contract. Assumes nothing.
 use borrow.Author.Needs.{needs}
+use mathlib.Core.Path.{refl}
+use Rattle.commands.proofs.Laws.{within-fits, within-long, within-seen, within-kept}
 use Rattle.lending.proofs.Laws.{frame-made}
 use Rattle.lending.proofs.frame.Statement.{statement}
 use Rattle.lending.proofs.frame.Tie as tie
@@ -10,14 +12,25 @@ frame-spec =
     (tie.spec
     (λ c κs. search needs)
     (λ c. search needs)
+    (λ c κs. search needs)
+    (λ c κs. search needs)
+    (λ c. search (needs, within-fits))
+    (λ c. search (needs, within-long))
     (λ c. search needs)
+    (λ c κs. search needs)
     (λ c κs. search needs)
     (λ c. search needs)
     (λ c κs. search needs)
     (λ c. search needs)
     (λ c. search needs)
     (λ c.
-    let f = c .before .before .before .before .before .before .before .before .before .front in
-    let g = c .before .before .before .before .before .before .before .received in
+    let d = c .before .before .before .before .before .before .before in
+    let o = d .before .before .before .before .before .before .before .before .blank in
+    let k = d .before .before .before .before .before .before .decode in
+    let n = d .before .before .before .before .within in
+    let p = d .before .part in
     let a = c .before .before .answered in
-    frame-made _ _ _ _ _ _ (f .result) (f .ensures .1 .0) (f .ensures .1 .1) _ _ _ (g .ensures) (a .ensures .0) (a .ensures .1)))
+    let seen = within-seen _ _ _ _ refl (n .ensures) in
+    let kept = within-kept _ _ _ _ refl (n .ensures) in
+    frame-made _ _ _ _ _ _ (n .result) seen kept
+    _ _ _ _ _ _ _ (o .ensures) (k .ensures) (p .ensures) (d .receive .ensures) (a .ensures .0) (a .ensures .1)))

@@ -1,5 +1,7 @@
 -- `lending::grant` meets its contract. Assumes nothing.
 use borrow.Author.Needs.{needs}
+use mathlib.Core.Path.{refl}
+use Rattle.commands.proofs.Laws.{within-fits, within-long, within-seen, within-kept}
 use Rattle.lending.proofs.Laws.{grant-made}
 use Rattle.lending.proofs.grant.Statement.{statement}
 use Rattle.lending.proofs.grant.Tie as tie
@@ -9,15 +11,17 @@ grant-spec =
     tie.close
     (tie.spec
     (λ c κs. search needs)
-    (λ c. search needs)
-    (λ c. search needs)
+    (λ c. search (needs, within-fits))
+    (λ c. search (needs, within-long))
     (λ c κs. search needs)
     (λ c. search needs)
     (λ c κs. search needs)
     (λ c. search needs)
     (λ c. search needs)
     (λ c.
-    let f = c .before .before .before .before .before .before .before .before .before .before .front in
+    let n = c .before .before .before .before .before .before .before .before .before .within in
     let g = c .before .before .before .before .before .before .before .grant in
     let a = c .before .before .answered in
-    grant-made _ _ _ _ _ _ (f .result) (f .ensures .1 .0) (f .ensures .1 .1) _ _ _ (g .ensures) (a .ensures .0) (a .ensures .1)))
+    let seen = within-seen _ _ _ _ refl (n .ensures) in
+    let kept = within-kept _ _ _ _ refl (n .ensures) in
+    grant-made _ _ _ _ _ _ (n .result) seen kept _ _ _ (g .ensures) (a .ensures .0) (a .ensures .1)))
