@@ -10,12 +10,12 @@ use Rattle.words.specs.Words.{characters, rest}
 use Rattle.text.specs.Text.{written, put}
 use Rattle.commands.specs.declared.Console.{Console}
 use Rattle.commands.specs.declared.Told.{Told}
-use Rattle.commands.specs.Answers.{Given, withDevice, given, tells}
+use Rattle.commands.specs.Answers.{Given, withDevice, withBench, given, tells}
 use Rattle.replies.specs.Replies.{said, numbered}
 use Rattle.commands.specs.Commands.{zeros, output, named, new, lend, write, grant, frame, send, run, poke}
 use Rattle.kinds.specs.declared.Act.{Act}
 use Rattle.kinds.specs.declared.Act.the-variants.{New, Lend, Write, Grant, Frame, Send, Run, Poke}
-use Rattle.acting.specs.Acts.{benched, acts}
+use Rattle.acting.specs.Acts.{acts}
 
 module _ (c : Console) (m line t : List ℕ) (a b at : ℕ) (k : Act) where
   -- the calls that a function of their own makes whole
@@ -46,14 +46,14 @@ module _ (c : Console) (m line t : List ℕ) (a b at : ℕ) (k : Act) where
   unfolding lend
   lend-called t′ r e p h = rw e (λ j. record { console = p j; memory = m; text = h j })
 
-  pub new-called : (m′ t′ : List ℕ) (r : Told) → k ≡ New → m′ ≡ zeros (length m) → r .console ≡ benched c (newBench a b)
+  pub new-called : (m′ t′ : List ℕ) (r : Told) → k ≡ New → m′ ≡ zeros (length m) → r .console ≡ withBench c (newBench a b)
       → written (r .end) t′ ≡ put t at (numbered (characters "new") (newBench a b .number)) → given r m′ t′ ≡ tells (acts k c m a b line) t at
   unfolding new
   new-called m′ t′ r e z p h = rw e (λ j. record { console = p j; memory = z j; text = h j })
 
 -- ---- a new bench
 
-pub new-made : (c : Console) (t t′ : List ℕ) (at base window : ℕ) (r : Told) (a : Answered) → a ≡ newBench base window → r .console ≡ benched c a
+pub new-made : (c : Console) (t t′ : List ℕ) (at base window : ℕ) (r : Told) (a : Answered) → a ≡ newBench base window → r .console ≡ withBench c a
     → written (r .end) t′ ≡ put t at (numbered (characters "new") (a .number))
-    → (r .console ≡ benched c (newBench base window)) × (written (r .end) t′ ≡ put t at (numbered (characters "new") (newBench base window .number)))
+    → (r .console ≡ withBench c (newBench base window)) × (written (r .end) t′ ≡ put t at (numbered (characters "new") (newBench base window .number)))
 new-made c t t′ at base window r a f p h = rw (← f) (p, h)

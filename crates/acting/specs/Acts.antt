@@ -1,17 +1,12 @@
 -- The calls that change the bench or what is lent, and what each does. Assumes nothing.
 use Prim.Native.Nat.{ℕ}
 use mathlib.Core.List.{List}
-use Rattle.enet.specs.declared.Answered.{Answered}
 use Rattle.words.specs.Words.{rest}
 use Rattle.commands.specs.declared.Console.{Console}
 use Rattle.commands.specs.Answers.{Answer}
 use Rattle.commands.specs.Commands.{output, named, new, lend, write, grant, frame, send, run, poke}
 use Rattle.kinds.specs.declared.Act.{Act}
 use Rattle.kinds.specs.declared.Act.the-variants.{New, Lend, Write, Grant, Frame, Send, Run, Poke}
-
--- the console with a new bench, whose window is lent
-abbrev pub benched : Console → Answered → Console
-benched c a = record { device = a .device; lent = a .device .window; lines = c .lines }
 
 abbrev pub acts : Act → Console → List ℕ → ℕ → ℕ → List ℕ → Answer
 acts New c m a b line = new c m a b

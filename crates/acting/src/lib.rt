@@ -4,8 +4,8 @@ ghost use Rattle.words.specs.Words.{characters};
 ghost use Rattle.text.specs.Text.{written, put};
 ghost use Rattle.replies.specs.Replies.{said, numbered};
 ghost use Rattle.enet.specs.Device.{new as newBench};
-ghost use Rattle.commands.specs.Answers.{given, tells};
-ghost use Rattle.acting.specs.Acts.{benched, acts};
+ghost use Rattle.commands.specs.Answers.{withBench, given, tells};
+ghost use Rattle.acting.specs.Acts.{acts};
 use commands::Console;
 use commands::Told;
 use enet::Enet;
@@ -22,7 +22,7 @@ fn lend(mut console: Console, n: u32, text: &mut [u8], at: usize) -> Told
 
 // A new bench, whose window is lent.
 fn new(mut console: Console, base: u32, length: u32, text: &mut [u8], at: usize) -> Told
-    ensures { λ r. ⌜ r .console ≡ benched console (newBench base length) ⌝ }
+    ensures { λ r. ⌜ r .console ≡ withBench console (newBench base length) ⌝ }
     ensures { λ r. ⌜ written (r .end) (now (text .exit)) ≡ put (now (text .entry)) at (numbered (characters "new") (newBench base length .number)) ⌝ }
 {
     let a = Enet::new(base, length);

@@ -1,5 +1,5 @@
 // Input into lines. A line is gathered in a buffer, since it may come in several chunks; what is past the buffer's end is
-// not kept. The buffers are arrays and not slices: of an array's length nothing is left to prove.
+// not kept.
 ghost use Prim.Native.Nat.{_<_, _≤_};
 
 // What one read takes at most.

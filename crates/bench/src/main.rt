@@ -34,7 +34,7 @@ fn answered(
 }
 
 // Answers each line of the input, and gives how much of the text waits to be written at its end. What comes before the
-// first part and after the last is left to the caller: a loop's check takes the longer, the more its function does.
+// first part and after the last is left to the caller.
 fn answer_all(
     mut told: Told,
     mut input: Input,

@@ -2,6 +2,7 @@
 use Prim.Native.Nat.{ℕ}
 use mathlib.Core.List.{List}
 use Rattle.enet.specs.declared.Enet.{Enet}
+use Rattle.enet.specs.declared.Answered.{Answered}
 use Rattle.text.specs.Text.{Text, written, put}
 use Rattle.commands.specs.declared.Console.{Console}
 use Rattle.commands.specs.declared.Told.{Told}
@@ -17,6 +18,10 @@ answers c m s = record { console = c; memory = m; says = s }
 -- the console with another device
 abbrev pub withDevice : Console → Enet → Console
 withDevice c d = record { device = d; lent = c .lent; lines = c .lines }
+
+-- the console with a new bench, whose window is lent
+abbrev pub withBench : Console → Answered → Console
+withBench c a = record { device = a .device; lent = a .device .window; lines = c .lines }
 
 -- an answer that was written into a lent buffer
 pub record Given : Type 0 where

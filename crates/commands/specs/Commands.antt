@@ -18,7 +18,7 @@ use Rattle.enet.specs.Run.{run as runInto}
 use Rattle.words.specs.Words.{characters}
 use Rattle.forms.specs.Pairs.{bytesOf}
 use Rattle.commands.specs.declared.Console.{Console}
-use Rattle.commands.specs.Answers.{Answer, answers, withDevice}
+use Rattle.commands.specs.Answers.{Answer, answers, withDevice, withBench}
 use Rattle.replies.specs.Replies.{said, either, numbered, valued}
 use Rattle.reports.specs.Reports.{read as readLine, held, shown}
 use Rattle.long_reports.specs.LongReports.{ran, engines}
@@ -46,7 +46,7 @@ named word = take 2048 (bytesOf word)
 unfoldable pub new : Console → List ℕ → ℕ → ℕ → Answer
 new c m base window =
     let a = newBench base window in
-    answers (record { device = a .device; lent = a .device .window; lines = c .lines }) (zeros (length m)) (numbered (characters "new") (a .number))
+    answers (withBench c a) (zeros (length m)) (numbered (characters "new") (a .number))
 
 -- `lend LENGTH`: `lend`. "from now on the first LENGTH bytes of memory are lent"
 unfoldable pub lend : Console → List ℕ → ℕ → Answer

@@ -1,23 +1,17 @@
 -- A command by its kind, and a line's answer. Assumes nothing.
-use Prim.Native.Nat.{ℕ, _+_, _%_, _^_, _≤_, _<_, min}
+use Prim.Native.Nat.{ℕ, _+_, _%_, _^_, min}
 use mathlib.Core.Path.{_≡_, refl}
 use mathlib.Core.Bool.{Bool, true, false}
 use mathlib.Core.List.{List, []}
-use native.Mathlib.Omega.{arith}
-use borrow.Author.Tests.{leb-true, leb-false}
-use lib.Dec.{leb}
 use lib.ListN.{length}
-use Rattle.rules.specs.Choice.{if_then_else_}
-use Rattle.memory.specs.Memory.{store}
 use Rattle.enet.specs.declared.Enet.{Enet}
 use Rattle.enet.specs.Device.{reset as resetBench}
 use Rattle.script.specs.declared.Call.{Call}
 use Rattle.script.specs.declared.Command.{Command}
 use Rattle.script.specs.declared.Command.the-variants.{New, Lend, Read, Write, Line, Grant, Frame, Send, Run, Show, Ring, Poke, Peek, Check, State, Error}
 use Rattle.script.specs.Calls.{callOf}
-use Rattle.text.specs.Text.{written, endOf, put}
+use Rattle.text.proofs.Laws.{put-nothing}
 use Rattle.commands.specs.declared.Console.{Console}
-use Rattle.commands.specs.declared.Told.{Told}
 use Rattle.commands.specs.Answers.{Answer, Given, answers, given, tells}
 use Rattle.commands.specs.Answering.{reset, answerTo, counted, silent, answer}
 use Rattle.kinds.specs.declared.Kind.{Kind}
@@ -72,20 +66,10 @@ reset-is d e = λ j. record { device = e j; lent = 0; lines = 0 }
 pub counted-is : (c : Console) (n : ℕ) → n ≡ (c .lines + 1) % 2 ^ 64 → record { device = c .device; lent = c .lent; lines = n } ≡ counted c
 counted-is c n e = λ j. record { device = c .device; lent = c .lent; lines = e j }
 
--- nothing written: the text ends where it did, or with the buffer
-module _ (room at end : ℕ) (e : end ≡ min at room) where
-  ends : (b : Bool) → leb (at + 0) room ≡ b → end ≡ (if b then at + 0 else room)
-  ends true h = let f : at + 0 ≤ room = leb-true (at + 0) room h in omega arith
-  ends false h = let f : room < at + 0 = leb-false (at + 0) room h in omega arith
-
-nothing-put : (t : List ℕ) (at end : ℕ) → end ≡ min at (length t) → written end t ≡ put t at []
-unfolding put endOf store
-nothing-put t at end e = λ j. record { end = ends (length t) at end e (leb (at + 0) (length t)) refl j; buffer = t }
-
 module _ (c n : Console) (m line t : List ℕ) (at : ℕ) (quiet : Bool) (e : n ≡ counted c) (s : quiet ≡ silent line) where
   pub answer-silent : (end : ℕ) → quiet ≡ true → end ≡ min at (length t) → given (record { console = n; end = end }) m t ≡ tells (answer c m line) t at
   unfolding answer
-  answer-silent end q h = rw (← s, q) (λ j. record { console = e j; memory = m; text = nothing-put t at end h j })
+  answer-silent end q h = rw (← s, q) (λ j. record { console = e j; memory = m; text = put-nothing t at end h j })
 
   pub answer-called : (call : Call) (x : Given) → quiet ≡ false → call ≡ callOf line
       → x ≡ tells (answerTo (call .command) n m (call .a) (call .b) line) t at → x ≡ tells (answer c m line) t at

@@ -10,7 +10,7 @@ use lib.Seq.{drop-cons}
 use Rattle.words.specs.Words.{characters}
 use Rattle.text.specs.Text.{Text, written, put}
 use Rattle.fields.specs.Fields.{digits, number, glyph, pair, pairs, bytes, value}
-use Rattle.text.proofs.Laws.{put-more, put-then, put-none}
+use Rattle.text.proofs.Laws.{put-more, put-then, put-nothing}
 
 -- ---- the digits of a number
 
@@ -56,7 +56,7 @@ pairs-turn s t t′ end end′ i all e h so-far =
 
 pub pairs-end : (s t : List ℕ) (end i : ℕ) (all : Text) → put t end (pairs (drop i s)) ≡ all → length s ≤ i → end ≤ length t → written end t ≡ all
 unfolding pairs
-pairs-end s t end i all so-far l h = put-none t end h ∙ (rw (drop-of-length-le s {i = i} l) at so-far)
+pairs-end s t end i all so-far l h = put-nothing t end end (omega arith) ∙ (rw (drop-of-length-le s {i = i} l) at so-far)
 
 -- ---- fields, each behind a space
 

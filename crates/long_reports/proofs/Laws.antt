@@ -1,4 +1,4 @@
--- Laws of the longest lines: each is its fields one behind the other. Assumes nothing.
+-- Laws of the lines of four fields: each is its fields one behind the other. Assumes nothing.
 use Prim.Native.Nat.{ℕ}
 use mathlib.Core.Path.{_≡_}
 use mathlib.Core.Bool.{Bool, true, false}
@@ -7,18 +7,16 @@ use Rattle.text.specs.Text.{Text, written, put}
 use Rattle.text.proofs.Laws.{put-then}
 use Rattle.fields.specs.Fields.{number, value, bytes}
 use Rattle.replies.specs.Replies.{newline}
-use Rattle.replies.proofs.Laws.{two}
 use Rattle.long_reports.specs.LongReports.{counts, ran, engine, engines}
 
--- the text before a line, the name that it begins with, and what the code has in the end
-module _ (t t₁ : List ℕ) (at end₁ : ℕ) (name : List ℕ) (x : Text) (e₁ : written end₁ t₁ ≡ put t at name) where
-  module _ (t₂ : List ℕ) (end₂ : ℕ) where
-    pub ran-is : (t₃ : List ℕ) (end₃ n steps count : ℕ) (s : List ℕ) → written end₂ t₂ ≡ put t₁ end₁ (counts n steps count)
-        → written end₃ t₃ ≡ put t₂ end₂ (bytes s) → x ≡ put t₃ end₃ newline → x ≡ put t at (ran name n steps count s)
-    unfolding ran
-    ran-is t₃ end₃ n steps count s e₂ e₃ h =
-        let f = put-then t t₂ at end₂ (name ++ counts n steps count) (bytes s) (written end₃ t₃) (two t t₁ at end₁ name x e₁ t₂ end₂ (counts n steps count) e₂) e₃ in
-        put-then t t₃ at end₃ (name ++ counts n steps count ++ bytes s) newline x f h
+pub ran-is : (t t₁ t₂ t₃ : List ℕ) (at end₁ end₂ end₃ : ℕ) (name : List ℕ) (n steps count : ℕ) (s : List ℕ) (x : Text)
+    → written end₁ t₁ ≡ put t at name → written end₂ t₂ ≡ put t₁ end₁ (counts n steps count) → written end₃ t₃ ≡ put t₂ end₂ (bytes s)
+    → x ≡ put t₃ end₃ newline → x ≡ put t at (ran name n steps count s)
+unfolding ran
+ran-is t t₁ t₂ t₃ at end₁ end₂ end₃ name n steps count s x e₁ e₂ e₃ h =
+    let f = put-then t t₁ at end₁ name (counts n steps count) (written end₂ t₂) e₁ e₂ in
+    let g = put-then t t₂ at end₂ (name ++ counts n steps count) (bytes s) (written end₃ t₃) f e₃ in
+    put-then t t₃ at end₃ (name ++ counts n steps count ++ bytes s) newline x g h
 
 pub counts-is : (t t₁ t₂ : List ℕ) (at end₁ end₂ n steps count : ℕ) (x : Text) → written end₁ t₁ ≡ put t at (number n)
     → written end₂ t₂ ≡ put t₁ end₁ (number steps) → x ≡ put t₂ end₂ (number count) → x ≡ put t at (counts n steps count)

@@ -1,4 +1,4 @@
--- The longest lines that the console writes: of a step run, and of both engines. Assumes nothing.
+-- The lines of a name and four fields that the console writes: of a step run, and of both engines. Assumes nothing.
 use Prim.Native.Nat.{ℕ}
 use mathlib.Core.Bool.{Bool}
 use mathlib.Core.List.{List, _++_}

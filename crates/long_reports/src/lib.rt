@@ -1,4 +1,4 @@
-// The longest lines that the console writes: of a step run, and of both engines.
+// The lines of a name and four fields that the console writes: of a step run, and of both engines.
 ghost use mathlib.Core.Path.{_≡_};
 ghost use Rattle.text.specs.Text.{written, put};
 ghost use Rattle.long_reports.specs.LongReports.{counts, ran, engine, engines};

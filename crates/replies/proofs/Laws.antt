@@ -3,7 +3,6 @@ use Prim.Native.Nat.{ℕ}
 use mathlib.Core.Path.{_≡_}
 use mathlib.Core.Bool.{Bool, true, false}
 use mathlib.Core.List.{List, _++_}
-use Rattle.rules.specs.Choice.{if_then_else_}
 use Rattle.text.specs.Text.{Text, written, put}
 use Rattle.fields.specs.Fields.{number, value}
 use Rattle.text.proofs.Laws.{put-then}

@@ -1,8 +1,8 @@
--- Laws of text: one text behind another is one text, and the ways out of the functions. Assumes nothing.
-use mathlib.Core.Path.{_≡_, sym, ap, _∙_}
-use mathlib.Core.Bool.{false}
+-- Laws of text: the ways out of `put`, and that one text behind another is one text. Assumes nothing.
+use mathlib.Core.Path.{_≡_, refl, sym, ap, _∙_}
+use mathlib.Core.Bool.{Bool, true, false}
 use mathlib.Core.List.{List, [], _∷_, _++_}
-use Prim.Native.Nat.{ℕ, zero, suc, _+_, _-_, _≤_, _<_}
+use Prim.Native.Nat.{ℕ, zero, suc, _+_, _-_, _≤_, _<_, min}
 use native.Mathlib.Nat.{add-zero, add-suc, suc-add}
 use native.Mathlib.Omega.{arith}
 use borrow.Author.Tests.{le-leb, lt-leb, leb-true, leb-false}
@@ -116,9 +116,12 @@ put-within t t′ at end s e =
     let l : length t′ ≡ length t = ap length q ∙ length-store t at s in
     omega (arith, end-within (length t) at (length s))
 
--- no text
-pub put-none : (t : List ℕ) (at : ℕ) → at ≤ length t → written at t ≡ put t at []
+-- no text: it ends where the text before it did, or with the buffer
+module _ (room at end : ℕ) (e : end ≡ min at room) where
+  end-nothing : (b : Bool) → leb (at + 0) room ≡ b → end ≡ (if b then at + 0 else room)
+  end-nothing true h = let f : at + 0 ≤ room = leb-true (at + 0) room h in omega arith
+  end-nothing false h = let f : room < at + 0 = leb-false (at + 0) room h in omega arith
+
+pub put-nothing : (t : List ℕ) (at end : ℕ) → end ≡ min at (length t) → written end t ≡ put t at []
 unfolding put endOf store
-put-none t at h =
-    let e : at + 0 ≡ at = omega arith in
-    rw (e, le-leb at (length t) h)
+put-nothing t at end e = λ j. record { end = end-nothing (length t) at end e (leb (at + 0) (length t)) refl j; buffer = t }

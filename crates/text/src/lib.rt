@@ -18,8 +18,7 @@ pub fn put(text: &mut [u8], at: usize, s: &[u8]) -> usize
     at + s.len()
 }
 
-// Writes one character. The lines and fields above write spaces and line feeds by it: an array for each of them would make
-// their proofs longer.
+// Writes one character.
 pub fn character(text: &mut [u8], at: usize, c: u8) -> usize
     ensures { λ r. ⌜ written r (now (text .exit)) ≡ putInto (now (text .entry)) at (c ∷ []) ⌝ }
 {
