@@ -40,6 +40,15 @@ module _ (t : List ℕ) (at n most : ℕ) (x : Text) where
 
 -- ---- bytes in pairs
 
+-- the character of a digit below 10, and of one above
+pub glyph-digit : (d : ℕ) → d < 10 → 48 + d ≡ glyph d
+unfolding glyph
+glyph-digit d h = rw (lt-ltb d 10 h)
+
+pub glyph-letter : (d : ℕ) → 10 ≤ d → 87 + d ≡ glyph d
+unfolding glyph
+glyph-letter d h = rw (le-ltb d 10 h)
+
 pub pair-is : (t : List ℕ) (at b high low : ℕ) (x : Text) → high ≡ glyph (b / 16) → low ≡ glyph (b % 16)
     → x ≡ put t at (high ∷ low ∷ []) → x ≡ put t at (pair b)
 unfolding pair
