@@ -1,10 +1,7 @@
 pub mod Branches
-pub mod Sends
-pub mod Runs
 pub mod Memories
 pub mod Devices
 pub mod Statuses
 pub mod Stopped
-pub mod Outputs
 pub mod Nowhere
 pub mod Corollaries

@@ -17,7 +17,7 @@ use Rattle.receiving.specs.Receiving.{delivered}
 use Rattle.enet.specs.Run.{Running, sends, run}
 use Rattle.calls.specs.Calls.{Bench, Call, grantCall, receiveCall, sendCall, stepRun, call}
 use Rattle.enet.proofs.Sends.{send-unsent}
-use Rattle.changes.specs.Runs.{Stand, begins, single, further}
+use Rattle.outputs.specs.Runs.{Stand, begins, single, further}
 use Rattle.changes.specs.Regions.{Region, statusWord, frameBytes, sentWords, regions, Outside, SameOutside}
 use Rattle.enet.proofs.Ways.{by-grant, by-receive, by-send}
 

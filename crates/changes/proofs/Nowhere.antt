@@ -14,9 +14,9 @@ use Rattle.calls.specs.Calls.{Bench, Call, looks, registerWrite, grantCall, rec
 use Rattle.enet.proofs.Sends.{send-unsent}
 use Rattle.changes.specs.Nowhere.{Kept, NowhereElse}
 use Rattle.enet.proofs.Ways.{by-grant, by-receive}
-use Rattle.changes.proofs.Sends.{send-front, send-size}
+use Rattle.outputs.proofs.Sends.{send-front, send-size}
 use Rattle.changes.proofs.Memories.{same, grant-kept, receive-kept, send-kept, run-kept}
-use Rattle.changes.proofs.Outputs.{run-front}
+use Rattle.outputs.proofs.Outputs.{run-front}
 use Rattle.changes.proofs.Devices.{write-parts, receive-parts, send-parts, run-parts}
 use Rattle.changes.proofs.Statuses.{receive-status, send-status, run-status}
 

@@ -1,12 +1,12 @@
 -- Demand 2: ".. and memory changes nowhere else": the statement, with the output and the device. Assumes nothing.
-use Prim.Native.Nat.{ℕ, _≤_}
+use Prim.Native.Nat.{ℕ}
 use mathlib.Core.Path.{_≡_}
 use mathlib.Core.Logic.{_≢_}
 use mathlib.Core.List.{List}
-use lib.ListN.{length, getD}
 use Rattle.enet.specs.declared.Enet.{Enet}
 use Rattle.enet.specs.Access.{read}
-use Rattle.calls.specs.Calls.{Bench, Call, receiveCall, sendCall, stepRun, Result, call}
+use Rattle.calls.specs.Calls.{Bench, Call, receiveCall, sendCall, stepRun, call}
+use Rattle.outputs.specs.Outputs.{FrontOnly, FrameSize}
 use Rattle.changes.specs.Regions.{regions, SameOutside}
 use Rattle.changes.specs.Parts.{PartsKept, receiveBits, sendBits, StatusRaised}
 
@@ -16,17 +16,6 @@ pub record Kept (b : Bench) (c : Call) : Type 0 where
   -- a refusal changes no byte; of a step run this is said of the single send that was refused
   pub refused : call b c .number ≢ 0 → call b c .steps ≡ 0 → call b c .bench .memory ≡ b .memory
   pub device : PartsKept c (b .device) (call b c .bench .device)
-
--- ".. at the front of the output, leaves the output's rest and returns their number"
-pub record FrontOnly (output : List ℕ) (r : Result) : Type 0 where
-  pub fits : r .value ≤ length output
-  pub size : length (r .bytes) ≡ length output
-  pub rest : (j : ℕ) → r .value ≤ j → getD (r .bytes) j 0 ≡ getD output j 0
-
--- "puts 64 to 1,518 bytes"
-pub record FrameSize (n : ℕ) : Type 0 where
-  pub least : 64 ≤ n
-  pub most : n ≤ 1518
 
 pub record NowhereElse : Type 0 where
   pub calls : (b : Bench) (c : Call) → Kept b c

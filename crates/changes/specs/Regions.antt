@@ -9,7 +9,7 @@ use Rattle.rules.specs.Choice.{if_then_else_}
 use Rattle.window.specs.Window.{offset}
 use Rattle.descriptor.specs.Descriptor.{start}
 use Rattle.calls.specs.Calls.{Bench, Call, looks, registerWrite, grantCall, receiveCall, sendCall, stepRun, call}
-use Rattle.changes.specs.Runs.{Stand, begins, single, further}
+use Rattle.outputs.specs.Runs.{Stand, begins, single, further}
 
 -- so many bytes of the lent memory, from an offset on
 pub record Region : Type 0 where

@@ -6,7 +6,7 @@ use Rattle.enet.specs.declared.Enet.{Enet}
 use Rattle.enet.specs.Send.{send}
 use Rattle.enet.proofs.Sends.{send-written, sent-bounds}
 use Rattle.calls.specs.Calls.{Bench, sendCall, call, ofSending}
-use Rattle.changes.specs.Nowhere.{FrontOnly, FrameSize}
+use Rattle.outputs.specs.Outputs.{FrontOnly, FrameSize}
 
 pub send-front : (d : Enet) (m out : List ℕ) → FrontOnly out (ofSending (send d m out))
 send-front d m out = let w = send-written d m out in record { fits = w .fits; size = w .same; rest = w .rest }

@@ -13,8 +13,8 @@ use Rattle.enet.specs.Send.{Sending, send}
 use Rattle.enet.specs.Run.{Running, followed, sends, run}
 use Rattle.calls.specs.Calls.{Bench, stepRun, call, ofSending, ofRunning}
 use Rattle.enet.proofs.Sends.{send-unsent}
-use Rattle.changes.specs.Nowhere.{FrontOnly}
-use Rattle.changes.proofs.Sends.{send-front}
+use Rattle.outputs.specs.Outputs.{FrontOnly}
+use Rattle.outputs.proofs.Sends.{send-front}
 
 -- a run that wrote nothing
 none : (n : ℕ) (d : Enet) (m out : List ℕ) (k : ℕ)

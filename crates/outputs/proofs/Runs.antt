@@ -15,8 +15,8 @@ use Rattle.enet.specs.Send.{Sending, send}
 use Rattle.enet.specs.Run.{Running, followed, unsent, sends, run}
 use Rattle.calls.specs.Calls.{Bench, stepRun, Result, call, ofRunning}
 use Rattle.enet.proofs.Sends.{send-unsent}
-use Rattle.changes.specs.Runs.{Stand, begins, single, further, after, ended, SingleSends}
-use Rattle.changes.proofs.Sends.{send-front}
+use Rattle.outputs.specs.Runs.{Stand, begins, single, further, after, ended, SingleSends}
+use Rattle.outputs.proofs.Sends.{send-front}
 
 -- what a run gives that goes on from a stand
 abbrev onward : Stand → Running → Result
