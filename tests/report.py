@@ -5,6 +5,7 @@ What the sample day has to come to is worked out by hand from document 01, not t
 
 Usage: report.py PROGRAM   (the bench console)
 """
+import dataclasses
 import os
 import pathlib
 import re
@@ -17,6 +18,7 @@ import zlib
 ROOT = pathlib.Path(__file__).resolve().parent.parent
 REPORT, DAY = ROOT / 'tools' / 'report', ROOT / 'examples' / 'day.txt'
 STATION, BROADCAST = bytes.fromhex('020000000001'), b'\xff' * 6
+SVG = '{http://www.w3.org/2000/svg}'
 
 # ---- the sample day, by hand
 
@@ -32,6 +34,8 @@ TOTALS = [
     'grants refused 2',
     '13 1 descriptor not at a multiple of 4 or not all in the window',
     '14 1 descriptor already granted',
+    'bursts made 0 0 pairs, 0 outside the store',
+    'bursts refused 0',
     'frames delivered 8 543 bytes',
     'frames lost 2 128 bytes',
     'frames refused 5',
@@ -102,6 +106,40 @@ LINES = [
     ('state', 'state 1 00000010 0 00000000', 'receiving runs, place 00000010; sending is stopped, place 00000000'),
 ]
 
+# ---- bursts: a script with its answers, and all that the report has to say of it before the totals
+
+STORE = f'{RESULT}00000000' * 2
+NAMED = 'to 02-00-00-00-00-01, 88B5 "1042;41,7"'
+BURSTS = [
+    ('grant 100', 'grant 0', ['1 grant 100 -> 0 done: descriptor at 00000100 handed to the DMA']),
+    ('grant 110', 'grant 0', ['2 grant 110 -> 0 done: descriptor at 00000110 handed to the DMA']),
+    # the second pair ends where the store ends, the third one byte behind; no bytes at the end are a frame, behind it none
+    (f'burst 7 {STORE} 0 64 64 64 65 64 0 63 64 64 128 0 129 0', 'burst 0 0 0 16 4 8 4 16', [
+        '3 burst (7 pairs, a store of 128 bytes, room for 7 answers) -> 0 done: 2 delivered, 1 lost, 2 refused, 2 outside',
+        f'pair 1: frame (64 bytes, {NAMED}) -> 0 delivered',
+        f'pair 2: frame (64 bytes, {NAMED}) -> 0 delivered',
+        "pair 3: 64 bytes from 65 on -> 16 outside: pair passes the store's end",
+        f'pair 4: frame (63 bytes, {NAMED}) -> 4 refused: frame under 64 or over 1,518 bytes',
+        f'pair 5: frame (64 bytes, {NAMED}) -> 8 lost: descriptor not granted; PACKET_LOST is set',
+        'pair 6: frame (0 bytes) -> 4 refused: frame under 64 or over 1,518 bytes',
+        "pair 7: 0 bytes from 129 on -> 16 outside: pair passes the store's end",
+    ]),
+    ('burst 1 0a 0 1 0 1', 'burst 16 99', ['4 burst (2 pairs, a store of 1 byte, room for 1 answer) '
+                                           '-> 16 refused: more than 64 pairs, or an answer list of another length']),
+    (f'burst 65 -{" 0 0" * 65}', f'burst 16{" 99" * 65}', [
+        '5 burst (65 pairs, a store of 0 bytes, room for 65 answers) '
+        '-> 16 refused: more than 64 pairs, or an answer list of another length']),
+    ('burst 0 -', 'burst 0', ['6 burst (0 pairs, a store of 0 bytes, room for 0 answers) '
+                              '-> 0 done: 0 delivered, 0 lost, 0 refused, 0 outside']),
+]
+BURST_TOTALS = ['calls 6', 'grants made 2', 'bursts made 2 7 pairs, 2 outside the store', 'bursts refused 2',
+                'frames delivered 2 128 bytes', 'frames lost 1 64 bytes', 'frames refused 2',
+                '4 2 frame under 64 or over 1,518 bytes']
+# what the picture shows, in its order: kind, line and number shown; a refused call has a sign of its own
+BURST_SIGNS = [('grants', 1, ''), ('grants', 2, ''), ('delivered', 3, ''), ('delivered', 3, ''), ('refused', 3, '16'),
+               ('refused', 3, '4'), ('lost', 3, ''), ('refused', 3, '4'), ('refused', 3, '16'), ('refused', 4, '16'),
+               ('refused', 5, '16')]
+
 # name, script, output, what the report has to say; each ends with status 1
 FAULTS = [
     ('output ends early', 'line\nline\n', 'line 0\n', 'line 2: the output ends before the answer to "line"'),
@@ -113,8 +151,26 @@ FAULTS = [
     ('another answer', 'grant 0\n', 'frame 0\n', 'line 1: "frame 0" does not answer "grant 0"'),
     ('an error elsewhere', 'grant 0\n', 'error 2\n', '"error 2" does not answer "grant 0"'),
     ('an answer cut', 'read 8\n', 'read 0 0000\n', '"read 0 0000" does not answer "read 8"'),
-    ('no numbered result', 'grant 0\n', 'grant 16\n', '16 is no numbered result'),
+    ('no numbered result', 'grant 0\n', 'grant 17\n', '17 is no numbered result'),
+    ("a burst's number", 'grant 0\n', 'grant 16\n', '16 answers nothing but a burst'),
     ('bytes cut', 'run 1 1518\n', 'run 0 1 64 00\n', '64 bytes promised, 1 written'),
+    ('an answer too few', 'burst 2 - 0 0 0 0\n', 'burst 0 4\n',
+     'line 1, answer to "burst 2 - 0 0 0 0": 2 answers promised, 1 written'),
+    ('an answer too many', 'burst 1 - 0 0\n', 'burst 0 4 4\n', '1 answer promised, 2 written'),
+    ('no answers', 'burst 1 - 0 0\n', 'burst\n', '"burst" does not answer "burst 1 - 0 0"'),
+    ('a start without its length', 'burst 1 - 0\n', 'burst 0 4\n', '"burst 1 - 0" is no call known here'),
+    ('a burst done that has other lengths', 'burst 1 - 0 0 0 0\n', 'burst 0 4\n',
+     '0, yet it has 2 pairs and room for 1 answer'),
+    ('a burst done that is too long', f'burst 65 -{" 0 0" * 65}\n', f'burst 0{" 4" * 65}\n',
+     '0, yet it has 65 pairs and room for 65 answers'),
+    ('a burst refused that is not too long', f'burst 64 -{" 0 0" * 64}\n', f'burst 16{" 99" * 64}\n',
+     '16, yet it has 64 pairs and room for 64 answers'),
+    ('no answer of a burst', 'burst 0 -\n', 'burst 8\n', '8, yet it has 0 pairs and room for 0 answers'),
+    ('a refused burst with an answer', 'burst 2 - 0 0\n', 'burst 16 99 4\n', 'refused, yet an answer is no longer 99'),
+    ('a pair without an answer', 'burst 2 - 0 0 0 0\n', 'burst 0 4 99\n', 'pair 2: 99 is no numbered result'),
+    ('a pair outside delivered', 'burst 1 00 1 1\n', 'burst 0 0\n', 'pair 1: 0, yet the pair passes the end of the store'),
+    ('a pair inside not received', 'burst 2 00 0 1 1 0\n', 'burst 0 4 16\n',
+     'pair 2: 16, yet the pair does not pass the end of the store'),
     ('no text', 'line\n', b'\xff\x00\n', 'does not answer "line"'),
 ]
 
@@ -166,8 +222,30 @@ class Tests:
         status, text = self.report('# Pr\u00fcfung \x07 & <b>\n\n# First\n# more\nline\n#\n', 'line 0\n', '--svg', picture)
         wanted = ['Pr\u00fcfung \\x07 & <b>', '1. First', 'more']
         self.expect('headings', status == 0 and set(wanted) <= set(rows(text)), text)
-        titles = [element.text for element in ElementTree.parse(picture).getroot().iter('{http://www.w3.org/2000/svg}title')]
+        titles = [element.text for element in ElementTree.parse(picture).getroot().iter(f'{SVG}title')]
         self.expect("the picture's title", titles[:1] == wanted[:1], titles)
+
+    def bursts(self):
+        """A burst is told pair by pair, counted frame by frame, and drawn so within a box."""
+        script, output = (''.join(f'{line[part]}\n' for line in BURSTS) for part in (0, 1))
+        picture = self.folder / 'bursts.svg'
+        status, text = self.report(script, output, '--svg', picture)
+        calls, sums = re.sub(r'\n +->', ' ->', text).split('\nWhat the day comes to\n')
+        wanted = [told for line in BURSTS for told in line[2]]
+        self.expect('bursts', status == 0 and [row for row in rows(calls) if row] == wanted, text)
+        for wanted in BURST_TOTALS:
+            self.expect(f'bursts: {wanted}', wanted in rows(sums), text)
+        root = ElementTree.parse(picture).getroot()
+        given = [(sign.kind, sign.line, sign.number) for sign in signs(root)]
+        self.expect('signs of bursts', given == BURST_SIGNS, given)
+        # each stands in a column of its own, also those of one call
+        places = [sign.x for sign in signs(root)]
+        self.expect('places of bursts', places == sorted(set(places)), places)
+        given = [element.text for element in root.iter(f'{SVG}text')]
+        self.expect('bursts in the head', any('2 bursts made, 2 refused, 2 pairs outside' in text for text in given), given)
+        given = [[sign.title for sign in box] for box in boxes(root)]
+        self.expect('the box of a burst', given == [[f'line 3: {told}' for told in BURSTS[2][2][1:]]], given)
+        self.expect('fill in bursts', fill(root, 2) == [0, 1, 2, 1, 0], fill(root, 2))
 
     def faults(self):
         for name, script, output, wanted in FAULTS:
@@ -197,14 +275,55 @@ class Tests:
         self.picture(ElementTree.parse(picture).getroot())
 
     def picture(self, root):
-        signs = [element.get('class', '').split() for element in root.iter('{http://www.w3.org/2000/svg}g')]
+        kinds = [sign.kind for sign in signs(root)]
         for kind, wanted in MARKS.items():
-            given = signs.count(['mark', kind])
+            given = kinds.count(kind)
             self.expect(f'marks in the picture: {kind}', given == wanted, given)
-        line, = [element.get('d') for element in root.iter('{http://www.w3.org/2000/svg}path') if element.get('class') == 'fill']
-        first, *others = [float(y) for y in re.findall(r'M\S+ ([\d.]+)', line) + re.findall(r'V([\d.]+)', line)]
-        one = (first - min(others)) / max(FILL)
-        self.expect('fill in the picture', [(first - y) / one for y in [first] + others] == FILL, line)
+        self.expect('fill in the picture', fill(root, max(FILL)) == FILL, fill(root, max(FILL)))
+
+
+@dataclasses.dataclass
+class Sign:
+    """A mark of a picture: its kind, where it stands, the number in it, and what it says."""
+    kind: str
+    x: float
+    number: str
+    title: str
+
+    @property
+    def line(self):
+        return int(re.match(r'line (\d+):', self.title)[1])
+
+
+def signs(root):
+    """The marks of a picture, in its order. The last part of each begins with its place, a lost one's 4.5 beside it."""
+    found = []
+    for element in root.iter(f'{SVG}g'):
+        name, *kind = element.get('class').split()
+        if name == 'mark':
+            last = element[-1]
+            place = re.match(r'M?([\d.]+)', last.get('x') or last.get('cx') or last.get('d'))
+            found.append(Sign(*kind, float(place[1]), last.text or '', element.find(f'{SVG}title').text))
+    return found
+
+
+def boxes(root):
+    """The marks in each box of a picture, from left to right."""
+    found = []
+    for element in root.iter(f'{SVG}rect'):
+        if element.get('class') == 'burst':
+            left = float(element.get('x'))
+            right = left + float(element.get('width'))
+            found.append([sign for sign in sorted(signs(root), key=lambda sign: sign.x) if left < sign.x < right])
+    return found
+
+
+def fill(root, most):
+    """The steps of a picture's ring fill, of which the highest is known."""
+    line, = [element.get('d') for element in root.iter(f'{SVG}path') if element.get('class') == 'fill']
+    first, *others = [float(y) for y in re.findall(r'M\S+ ([\d.]+)', line) + re.findall(r'V([\d.]+)', line)]
+    one = (first - min(others)) / most
+    return [(first - y) / one for y in [first] + others]
 
 
 def refusal(frame):
@@ -227,6 +346,7 @@ def main(program):
         tests.lines()
         tests.ring()
         tests.headings()
+        tests.bursts()
         tests.faults()
         tests.day(str(pathlib.Path(program).resolve()))
     print(f'report: {tests.passed} passed, {tests.failed} failed')
