@@ -1,7 +1,7 @@
 #!/usr/bin/env python3
 """Tests the report on short scripts with answers written by hand, and on the sample day as the console answers it.
 
-What the sample day has to come to is worked out by hand from document 01, not taken from the console.
+What the sample day has to come to is worked out by hand from documents 01 and 02, not taken from the console.
 
 Usage: report.py PROGRAM   (the bench console)
 """
@@ -23,21 +23,25 @@ SVG = '{http://www.w3.org/2000/svg}'
 # ---- the sample day, by hand
 
 # answers to the grants and to the frames, in the script's order
-GRANTS = [0, 0, 0, 14, 13, 0, 0, 0, 0, 0]
+GRANTS = [0, 0, 0, 14, 13, 0, 0, 0, 0, 0, 0, 0]
 FRAMES = [8, 0, 0, 6, 6, 5, 4, 0, 0, 0, 0, 0, 8, 0, 11]
-# the ring's fill: three grants, three frames, four grants, four frames, one grant, one frame
-FILL = [0, 1, 2, 3, 2, 1, 0, 1, 2, 3, 4, 3, 2, 1, 0, 1, 0]
+# the burst's number, then the answer to each of its pairs, and what the picture shows of them
+BURST = [0, 0, 0, 16, 8]
+BURST_MARKS = ['delivered', 'delivered', 'refused', 'lost']
+# the ring's fill: three grants, three frames, four grants, four frames, one grant, one frame, two grants, and two frames
+# of the burst
+FILL = [0, 1, 2, 3, 2, 1, 0, 1, 2, 3, 4, 3, 2, 1, 0, 1, 0, 1, 2, 1, 0]
 # the broadcast has 14 + 77 + 4 bytes, each result 64; the sends have 64, 64 and 66 + 4
 TOTALS = [
-    'calls 96',
-    'grants made 8',
+    'calls 105',
+    'grants made 10',
     'grants refused 2',
     '13 1 descriptor not at a multiple of 4 or not all in the window',
     '14 1 descriptor already granted',
-    'bursts made 0 0 pairs, 0 outside the store',
+    'bursts made 1 4 pairs, 1 outside the store',
     'bursts refused 0',
-    'frames delivered 8 543 bytes',
-    'frames lost 2 128 bytes',
+    'frames delivered 10 671 bytes',
+    'frames lost 3 192 bytes',
     'frames refused 5',
     '4 1 frame under 64 or over 1,518 bytes',
     '5 1 frame check sequence wrong',
@@ -45,8 +49,10 @@ TOTALS = [
     "11 1 lent memory not of the window's length",
     'frames sent 3 198 bytes',
 ]
-MARKS = {'grants': 8, 'delivered': 8, 'lost': 2, 'refused': 5, 'sent': 2}
-SHOWN = ['1042;41,7', '1043;0,185', '1045;41,700', '1044;38,25', '1046;40,05', '1047;39,9', '1048;42,125']
+# five frames are refused, and one pair is outside
+MARKS = {'grants': 10, 'delivered': 10, 'lost': 3, 'refused': 6, 'sent': 2}
+SHOWN = ['1042;41,7', '1043;0,185', '1045;41,700', '1044;38,25', '1046;40,05', '1047;39,9', '1048;42,125', '2017;37,6',
+         '3108;40,25']
 
 # ---- short scripts: each line with its answer, and what the report has to say of it
 
@@ -261,11 +267,16 @@ class Tests:
         frames = [bytes.fromhex(line.split()[1]) for line in script.splitlines() if line.startswith('frame ')]
         self.expect("the day's frames are what they are meant to be",
                     [refusal(frame) for frame in frames] == [0 if number in (8, 11) else number for number in FRAMES])
+        pairs = [found(*line.split()[2:]) for line in script.splitlines() if line.startswith('burst ')]
+        self.expect("the burst's frames are what they are meant to be",
+                    pairs == [[0 if number == 8 else number for number in BURST[1:]]], pairs)
         done = subprocess.run([program], input=script.encode(), capture_output=True, timeout=60)
         answers = done.stdout.decode().splitlines()
         for name, wanted in [('grant', GRANTS), ('frame', FRAMES)]:
             given = [int(answer.split()[1]) for answer in answers if answer.startswith(f'{name} ')]
             self.expect(f'{name}s of the day', given == wanted, given)
+        given = [[int(word) for word in answer.split()[1:]] for answer in answers if answer.startswith('burst ')]
+        self.expect('the burst of the day', given == [BURST], given)
         picture = self.folder / 'day.svg'
         status, text = self.report(script, done.stdout, '--svg', picture)
         self.expect('status of the day', status == 0, text)
@@ -279,6 +290,8 @@ class Tests:
         for kind, wanted in MARKS.items():
             given = kinds.count(kind)
             self.expect(f'marks in the picture: {kind}', given == wanted, given)
+        given = [[sign.kind for sign in box] for box in boxes(root)]
+        self.expect('the burst in the picture', given == [BURST_MARKS], given)
         self.expect('fill in the picture', fill(root, max(FILL)) == FILL, fill(root, max(FILL)))
 
 
@@ -333,6 +346,13 @@ def refusal(frame):
     if zlib.crc32(frame[:-4]) != int.from_bytes(frame[-4:], 'little'):
         return 5
     return 0 if frame[:6] in (STATION, BROADCAST) else 6
+
+
+def found(store, *numbers):
+    """For each pair of a burst the first refusal that the bytes there meet, or 16 where it is outside."""
+    store, numbers = bytes.fromhex(store), [int(number) for number in numbers]
+    ends = [(start, start + length) for start, length in zip(numbers[::2], numbers[1::2])]
+    return [16 if len(store) < end else refusal(store[start:end]) for start, end in ends]
 
 
 def rows(text):
