@@ -42,6 +42,6 @@ pairsOf (s ∷ ss) (n ∷ ns) = pair s n ∷ pairsOf ss ns
 unfoldable pub uneven : List ℕ → List ℕ → Bool
 uneven ss ns = not (eqb (length ns) (length ss))
 
--- ".. of another length": refused in the same way
+-- and the call is refused in the same way
 unfoldable pub burstOf : Enet → List ℕ → List ℕ → List ℕ → List ℕ → List ℕ → Bursting
 burstOf d m store ss ns a = if uneven ss ns then refused d m a else burst d m store (pairsOf ss ns) a

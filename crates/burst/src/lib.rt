@@ -4,10 +4,20 @@
 ghost use mathlib.Core.Path.{_≡_};
 ghost use lib.ListN.{length};
 ghost use Rattle.pair.specs.Turn.{bursting};
-ghost use Rattle.burst.specs.Burst.{pairsOf, burstOf};
+ghost use Rattle.burst.specs.Burst.{refuses, pairsOf, burstOf};
 ghost use Rattle.burst.specs.Turns.{turnsOf};
 use enet::Answered;
 use enet::Enet;
+
+// Whether a burst of so many pairs into so many answers is refused.
+pub fn refuses(pairs: usize, answers: usize) -> bool
+    ensures { λ r. ⌜ r ≡ refuses pairs answers ⌝ }
+{
+    if 64 < pairs {
+        return true;
+    }
+    answers != pairs
+}
 
 // The pairs in order, each answer in its own place.
 fn each(
@@ -48,10 +58,7 @@ pub fn burst(
     if lengths.len() != starts.len() {
         return refused;
     }
-    if 64 < starts.len() {
-        return refused;
-    }
-    if answers.len() != starts.len() {
+    if refuses(starts.len(), answers.len()) {
         return refused;
     }
     let begun = Answered {

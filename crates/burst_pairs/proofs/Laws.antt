@@ -5,7 +5,7 @@ use mathlib.Core.Bool.{Bool, true, false, not, _||_}
 use mathlib.Core.List.{List}
 use native.Mathlib.Numerals.{add-one}
 use native.Mathlib.Omega.{arith}
-use borrow.Author.Tests.{lt-ltb, le-ltb, eqb-true}
+use borrow.Author.Tests.{eqb-true}
 use lib.Dec.{eqb, ltb}
 use lib.ListN.{length, take, drop, getD, drop-of-length-le}
 use lib.Seq.{drop-cons, take-all, getD-take, length-take-le}
@@ -19,14 +19,6 @@ use Rattle.burst.proofs.Turns.{turns-step, turns-receive}
 use Rattle.burst_pairs.specs.Walk.{begun, turns}
 
 -- ---- what the walk calls
-
-pub refuses-many : (n k : ℕ) → 64 < n → true ≡ refuses n k
-unfolding refuses
-refuses-many n k h = rw (lt-ltb 64 n h)
-
-pub refuses-other : (n k : ℕ) → n ≤ 64 → not (eqb k n) ≡ refuses n k
-unfolding refuses
-refuses-other n k h = rw (le-ltb 64 n h)
 
 pub begun-refused : (n k : ℕ) (d : Enet) (r : Bool) → r ≡ refuses n k → r ≡ true → record { number = 16; device = d } ≡ begun n k d
 begun-refused n k d r e t = rw (← e, t)

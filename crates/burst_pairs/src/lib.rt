@@ -3,27 +3,20 @@
 // hand too, so other code calls `burst::burst`.
 ghost use mathlib.Core.Path.{_≡_};
 ghost use Rattle.pair.specs.Turn.{bursting};
-ghost use Rattle.burst.specs.Burst.{refuses, burst};
+ghost use Rattle.burst.specs.Burst.{burst};
 ghost use Rattle.burst_pairs.specs.Walk.{begun, turns};
 use enet::Answered;
 use enet::Enet;
 use pair::Pair;
 
-// Whether a burst of so many pairs into so many answers is refused.
-fn refuses(pairs: usize, answers: usize) -> bool
-    ensures { λ r. ⌜ r ≡ refuses pairs answers ⌝ }
-{
-    if 64 < pairs {
-        return true;
-    }
-    answers != pairs
-}
+// Everything that branches stands in the first two functions: a refused call has its number before the loop, and makes no turn.
+// So the function over the slice, whose code has to be gone through by hand, has no branch but its loop's.
 
 // The call's number, beside the device.
 fn begun(pairs: usize, answers: usize, device: Enet) -> Answered
     ensures { λ r. ⌜ r ≡ begun pairs answers device ⌝ }
 {
-    if refuses(pairs, answers) {
+    if burst::refuses(pairs, answers) {
         return Answered {
             number: answer::BURST,
             device,
@@ -39,9 +32,14 @@ fn begun(pairs: usize, answers: usize, device: Enet) -> Answered
 fn turns(pairs: usize, answers: usize) -> usize
     ensures { λ r. ⌜ r ≡ turns pairs answers ⌝ }
 {
-    if refuses(pairs, answers) { 0 } else { pairs }
+    if burst::refuses(pairs, answers) {
+        0
+    } else {
+        pairs
+    }
 }
 
+// A burst of the pairs of one list.
 pub fn burst_pairs(
     device: Enet,
     memory: &mut [u8],

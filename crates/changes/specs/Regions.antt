@@ -55,6 +55,7 @@ regions b (registerWrite address value) = []
 regions b (grantCall address) = statusWord b address ∷ []
 -- "A delivery writes the whole frame .. then the packet status word .. Buffer bytes past the frame stay."
 regions b (receiveCall frame) = delivery b frame
+-- 02, Wish 1: "State, window and answers equal those of single receives"
 regions b (burstCall store starts lengths answers) = deliveries b (handed (burstCall store starts lengths answers) .frames)
 -- "It marks the descriptor returned"
 regions b (sendCall output) = statusWord b (b .device .registers .tx .place) ∷ []

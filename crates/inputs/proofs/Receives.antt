@@ -5,20 +5,20 @@ use mathlib.Core.Bool.{true, false}
 use mathlib.Core.List.{List, [], _∷_}
 use native.Mathlib.Omega.{arith}
 use native.Mathlib.Nat.{not-suc-le-zero}
-use lib.ListN.{length}
+use lib.ListN.{length, getD}
 use Rattle.rules.proofs.Choices.{by-bool}
 use Rattle.enet.specs.declared.Enet.{Enet}
 use Rattle.enet.specs.Device.{Outcome, leaves}
 use Rattle.enet.specs.Frames.{receive}
 use Rattle.pair.specs.declared.Pair.{Pair}
-use Rattle.pair.specs.Pair.{passes, bytesOf, received}
+use Rattle.pair.specs.Pair.{pair, passes, bytesOf, received}
 use Rattle.pair.specs.Turn.{Bursting}
 use Rattle.burst.specs.Burst.{receives, pairsOf}
 use Rattle.burst.specs.Taken.{taken, framesInside, answersInside}
 use Rattle.burst.proofs.Turns.{number-receives}
 use Rattle.burst.proofs.Ways.{by-burst}
 use Rattle.calls.specs.Calls.{Bench, receiveCall, ofBurst, call}
-use Rattle.inputs.specs.Receives.{afterReceives, receiveAnswers, placed, SingleReceives, BurstReceives, AtPair, PairByPair}
+use Rattle.inputs.specs.Receives.{afterReceives, receiveAnswers, placed, SingleReceives, BurstReceives, afterPairs, PairAnswered, PairByPair}
 
 -- ---- one pair
 
@@ -92,13 +92,17 @@ single-receives b store starts lengths answers =
 
 -- ---- pair by pair
 
-first-pair : (store : List ℕ) (p : Pair) (ps : List Pair) (b : Bench)
-    → AtPair b store (p ∷ ps) (placed store (p ∷ ps) (receiveAnswers b (framesInside store (p ∷ ps)))) 0
+-- pair k of these, with the answers as they are placed
+abbrev At : List ℕ → List Pair → Bench → ℕ → Type 0
+At store ps b k =
+    PairAnswered store (getD ps k (pair 0 0)) (afterPairs b store ps k) (afterPairs b store ps (suc k))
+    (getD (placed store ps (receiveAnswers b (framesInside store ps))) k 0)
+
+first-pair : (store : List ℕ) (p : Pair) (ps : List Pair) (b : Bench) → At store (p ∷ ps) b 0
 unfolding framesInside afterReceives receiveAnswers placed
 first-pair store p ps b = record { past = λ e. rw e (refl, refl); inside = λ e. rw e (refl, refl) }
 
-at-pair : (store : List ℕ) (ps : List Pair) (b : Bench) (k : ℕ) → k < length ps
-    → AtPair b store ps (placed store ps (receiveAnswers b (framesInside store ps))) k
+at-pair : (store : List ℕ) (ps : List Pair) (b : Bench) (k : ℕ) → k < length ps → At store ps b k
 unfolding framesInside afterReceives receiveAnswers placed
 at-pair store [] b k l = absurd (not-suc-le-zero l)
 at-pair store (p ∷ ps) b zero l = first-pair store p ps b

@@ -35,7 +35,7 @@ pub record SingleReceives (b : Bench) (store : List ℕ) (pairs : List Pair) (be
   pub bench : r .bench ≡ afterReceives b (framesInside store pairs)
   pub answers : r .answers ≡ receiveAnswers b (framesInside store pairs)
   pub done : r .number ≡ 0 → r .list ≡ placed store pairs (receiveAnswers b (framesInside store pairs))
-  -- ".. refuses the whole call with 16, changing nothing"
+  -- ".. refuses the whole call with 16, changing nothing": it takes no pair, so that `bench` above says b
   pub refused : r .number ≢ 0 → (r .number ≡ 16) × ((pairs ≡ []) × (r .list ≡ before))
 
 -- every burst: "one receive for each pair inside the store, a refused burst .. none"
@@ -58,14 +58,14 @@ pub record PairAnswered (store : List ℕ) (p : Pair) (before after : Bench) (n 
   pub inside : passes store p ≡ false
       → (n ≡ call before (receiveCall (bytesOf store p)) .number) × (after ≡ call before (receiveCall (bytesOf store p)) .bench)
 
--- pair k of a burst that takes these pairs of the store and leaves this answer list
-abbrev pub AtPair : Bench → List ℕ → List Pair → List ℕ → ℕ → Type 0
-AtPair b store pairs list k =
-    PairAnswered store (getD pairs k (pair 0 0)) (afterPairs b store pairs k) (afterPairs b store pairs (suc k)) (getD list k 0)
-
--- every pair of every burst that is not refused
-abbrev pub PairByPair : Type 0
-PairByPair =
+-- what is claimed of every pair of every burst that is not refused: of the store, the pair, the bench that it meets, the one that
+-- it leaves, and its answer
+abbrev pub EachPair : (List ℕ → Pair → Bench → Bench → ℕ → Type 0) → Type 0
+EachPair P =
     (b : Bench) (store starts lengths answers : List ℕ) → call b (burstCall store starts lengths answers) .number ≡ 0
     → (k : ℕ) → k < length (taken starts lengths answers)
-    → AtPair b store (taken starts lengths answers) (call b (burstCall store starts lengths answers) .list) k
+    → P store (getD (taken starts lengths answers) k (pair 0 0)) (afterPairs b store (taken starts lengths answers) k)
+    (afterPairs b store (taken starts lengths answers) (suc k)) (getD (call b (burstCall store starts lengths answers) .list) k 0)
+
+abbrev pub PairByPair : Type 0
+PairByPair = EachPair PairAnswered

@@ -38,7 +38,8 @@ fn put_answer(answers: &mut [u32], i: usize, number: u32)
     }
 }
 
-// The pair at place i of a burst: its answer goes there, and the burst's number stays.
+// The pair at place i of a burst: its answer goes there, and the burst's number stays. It takes and gives both in one value, so
+// that the loops above hand it on and make none of their own.
 pub fn turn(
     last: Answered,
     memory: &mut [u8],

@@ -2,7 +2,7 @@
 use Prim.Native.Nat.{ℕ}
 use mathlib.Core.Path.{_≡_, refl, sym, _∙_}
 use mathlib.Core.Bool.{Bool, true, false, false≢true}
-use mathlib.Core.Logic.{_≢_, _↔_}
+use mathlib.Core.Logic.{inl, inr, _≢_, _↔_}
 use mathlib.Core.List.{List, [], _∷_}
 use native.Mathlib.Omega.{arith}
 use lib.Dec.{eqb}
@@ -18,7 +18,7 @@ use Rattle.changes.specs.OneOf.{oneOf}
 use Rattle.inputs.specs.Receives.{PairAnswered}
 use Rattle.refusals.specs.Numbers.{receiveNumbers, pairNumbers}
 use Rattle.refusals.specs.Rows.{effect, row}
-use Rattle.refusals.specs.Refusals.{Leaves, PairByRow, past, inside}
+use Rattle.refusals.specs.Refusals.{Leaves, PairLeaves}
 use Rattle.refusals.proofs.Refused.{receive-row}
 
 -- ---- the whole burst
@@ -58,10 +58,13 @@ module _ (store : List ℕ) (p : Pair) (before after : Bench) (n : ℕ) (a : Pai
       (λ e. rw (a .inside e .0) (receive-number before (bytesOf store p)))
 
   pub pair-sixteen : (n ≡ 16) ↔ (passes store p ≡ true)
-  pair-sixteen = (λ z. by-bool (passes store p) (λ e. e) (λ e. absurd (receive-below before (bytesOf store p) (sym (a .inside e .0) ∙ z))), λ e. a .past e .0)
+  pair-sixteen = (
+    λ z. by-bool (passes store p) (λ e. e) (λ e. absurd (receive-below before (bytesOf store p) (sym (a .inside e .0) ∙ z))),
+    λ e. a .past e .0,
+  )
 
-  pub pair-row : n ≢ 0 → PairByRow store p before after n
+  pub pair-row : PairLeaves store p before after n
   pair-row h =
       by-bool (passes store p)
-      (λ e. past e (a .past e .0) (a .past e .1))
-      (λ e. inside e (a .inside e .0) (a .inside e .1) (receive-row before (bytesOf store p) (λ z. h (a .inside e .0 ∙ z))))
+      (λ e. inl (a .past e .0, a .past e .1))
+      (λ e. inr (a .inside e .0, (a .inside e .1, receive-row before (bytesOf store p) (λ z. h (a .inside e .0 ∙ z)))))

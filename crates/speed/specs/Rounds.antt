@@ -1,4 +1,4 @@
--- What the benchmark times: rounds of a call, each given back the descriptor that the last one used up. Assumes nothing.
+-- What the benchmark times: rounds of a call, with or without a grant before each, and one burst. Assumes nothing.
 use Prim.Native.Nat.{ℕ, zero, suc, _+_, _%_, _^_}
 use mathlib.Core.List.{List}
 use lib.Dec.{eqb}
@@ -40,7 +40,7 @@ pub record Received : Type 0 where
 abbrev pub received : ℕ → List ℕ → Received
 received n m = record { taken = n; memory = m }
 
--- rounds of a call that is answered, and how many of its answers were 0
+-- rounds of a call on the device, and how many of them answered 0
 unfoldable pub rounds : (Enet → List ℕ → Outcome) → ℕ → ℕ → Enet → List ℕ → Received
 rounds step zero taken d m = received taken m
 rounds step (suc left) taken d m =

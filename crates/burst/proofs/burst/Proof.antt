@@ -1,6 +1,6 @@
 -- `burst::burst` meets its contract. Assumes nothing.
 use borrow.Author.Needs.{needs}
-use Rattle.burst.proofs.Laws.{burst-uneven, burst-over, burst-other, burst-done}
+use Rattle.burst.proofs.Laws.{burst-uneven, burst-refused, burst-done}
 use Rattle.burst.proofs.burst.Statement.{statement}
 use Rattle.burst.proofs.burst.Tie as tie
 
@@ -9,8 +9,8 @@ burst-spec =
     tie.close
     (tie.spec
     (λ c. search burst-uneven)
-    (λ c. search burst-over)
-    (λ c. search burst-other)
+    (λ c κs. search needs)
+    (λ c. search burst-refused)
     (λ c κs. search needs)
     (λ c. search needs)
     (λ c. search needs)

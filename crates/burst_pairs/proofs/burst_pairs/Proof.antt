@@ -1,12 +1,15 @@
--- `burst_pairs::burst_pairs` meets its contract: a walk of its MIR, by hand, with a loop. Of `turns`, `begun` and `turn` it knows only
--- their contracts.
--- The slice of pairs is looked into once, before the loop, and shut after it. In a turn one pair is taken out of the row, copied and put
--- back, and
--- memory and answers are lent again to `turn`, each for a lifetime of its own, and come back (`Again.antt`).
---     exits     from what is had at exit to the `post`.        goes-…    what a callee asks, from what is had
---     At        what is had where a turn begins: i pairs are received, the answer is r at w, and memory and answers are m and a
---     more      a turn that receives a pair.        ends      the turn that leaves, and the rest of the body.        loops     the loop.
---     begins    the MIR up to it.        walk      the entry
+-- `burst_pairs::burst_pairs` meets its contract: its code is gone through by hand, with a loop. Of `turns`, `begun` and `pair::turn` it
+-- knows only their contracts. The slice of pairs is looked into once, before the loop, and shut after it. In a turn one pair is taken
+-- out of the row, copied and put back, and memory and answers are lent again to `turn`, each for a lifetime of its own, and come back
+-- (`Again.antt`).
+--     exits     from what is had at exit to the `post`
+--     goes-…    what a callee asks, from what is had
+--     At        what is had where a turn begins: i pairs are received, the answer is r at w, memory and answers are m and a
+--     more      a turn that receives a pair
+--     ends      the turn that leaves, and the rest of the body
+--     loops     the loop
+--     begins    the code up to it
+--     walk      the entry
 -- Assumes nothing.
 use mathlib.Core.Path.{_≡_, refl, sym, _∙_, ap, subst}
 use Prim.Native.Nat.{ℕ, zero, suc, _+_, _*_, _<_, _^_}
