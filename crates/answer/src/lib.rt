@@ -1,4 +1,4 @@
-// The numbered results of the bench (01, "Numbered results").
+// The numbered results of the bench (01, "Numbered results"; from 16 on 02).
 
 // Done.
 pub const DONE: u32 = 0;
@@ -47,3 +47,6 @@ pub const ALREADY_GRANTED: u32 = 14;
 
 // Next-descriptor register written while its engine runs.
 pub const ENGINE_RUNS: u32 = 15;
+
+// Of one pair: it passes the store's end. Of a whole burst: more than 64 pairs, or lists of different lengths.
+pub const BURST: u32 = 16;

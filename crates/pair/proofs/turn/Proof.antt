@@ -1,0 +1,15 @@
+-- `pair::turn` meets its contract. Assumes nothing.
+use borrow.Author.Needs.{needs}
+use Rattle.pair.proofs.Laws.{turn-is}
+use Rattle.pair.proofs.turn.Statement.{statement}
+use Rattle.pair.proofs.turn.Tie as tie
+
+pub turn-spec : {M : Type 1} → statement M
+turn-spec =
+    tie.close
+    (tie.spec
+    (λ c κs. search needs)
+    (λ c κs. search needs)
+    (λ c. search needs)
+    (λ c. search needs)
+    (λ c. search turn-is))
