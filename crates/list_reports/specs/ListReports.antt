@@ -4,7 +4,7 @@ use mathlib.Core.List.{List, [], _∷_, _++_}
 use Rattle.fields.specs.Fields.{number}
 use Rattle.replies.specs.Replies.{newline}
 
--- "all ROOM numbers of the answer list, one space before each"
+-- "all ROOM numbers of the answer list", a space before each
 unfoldable pub numbers : List ℕ → List ℕ
 numbers [] = []
 numbers (n ∷ s) = number n ++ numbers s

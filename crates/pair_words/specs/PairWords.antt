@@ -22,8 +22,8 @@ value Wrong = 0
 unfoldable pub firstNumber : List ℕ → Number
 firstNumber s = decimal (first s) 99_999_999
 
--- how many pairs there are, where n came before and so many more may come. A word that is not there has no digits, so a START
--- needs its LENGTH
+-- how many pairs there are, where n came before and so many more may come. "No call is: .. a START without its LENGTH": a word
+-- that is not there has no digits
 unfoldable pub pairsFrom : ℕ → ℕ → List ℕ → Number
 pairsFrom zero n s = Wrong
 pairsFrom (suc left) n s =
@@ -32,7 +32,7 @@ pairsFrom (suc left) n s =
     if not (spaced (rest s)) then Is (n + 1) else
     pairsFrom left (n + 1) (rest (rest s))
 
--- how many stand behind BYTES, which have to be right: "0 to 66 pairs"
+-- how many stand behind BYTES, which have to be right: "of 0 to 66 pairs"
 unfoldable pub pairsBehind : List ℕ → Number
 pairsBehind words =
     if not (right (byteCount (first words))) then Wrong else

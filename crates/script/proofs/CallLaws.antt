@@ -11,7 +11,7 @@ use Rattle.forms.specs.declared.numbers.Number.{Number}
 use Rattle.forms.specs.declared.numbers.Number.the-variants.{Is, Wrong}
 use Rattle.script.specs.declared.Command.{Command}
 use Rattle.script.specs.declared.Call.{Call}
-use Rattle.script.specs.Calls.{noCall, given, alone, withOne, withTwo, callOf}
+use Rattle.script.specs.Calls.{noCall, given, alone, withOne, withMore, callOf}
 use Rattle.words.specs.Words.{spaced, first, rest}
 
 -- ---- a command with its numbers
@@ -62,31 +62,17 @@ module _ (line : List ℕ) (r : Call) (s : Bool) (l : length line ≤ 4096) (is 
     line-one name t₂ n h =
         rw (le-ltb 4096 (length line) l, said-not (spaced line) s false is t, ← cut, said-not (spaced behind) s₂ true is₂ t₂, ← n) h
 
-    module _ (last : List ℕ) (t₂ : not s₂ ≡ false) (cut₂ : last ≡ rest behind) (s₃ : Bool) (is₃ : s₃ ≡ spaced last) where
-      pub line-two : (name word : List ℕ) → not s₃ ≡ true → name ≡ first line → word ≡ first behind → r ≡ withTwo name word last → r ≡ callOf line
-      unfolding callOf
-      line-two name word t₃ n w h =
-          rw (
-            le-ltb 4096 (length line) l,
-            said-not (spaced line) s false is t,
-            ← cut,
-            said-not (spaced behind) s₂ false is₂ t₂,
-            ← cut₂,
-            said-not (spaced last) s₃ true is₃ t₃,
-            ← n,
-            ← w,
-          )
-          h
-
-      pub line-more : not s₃ ≡ false → r ≡ noCall → r ≡ callOf line
-      unfolding callOf
-      line-more t₃ h =
-          rw (
-            le-ltb 4096 (length line) l,
-            said-not (spaced line) s false is t,
-            ← cut,
-            said-not (spaced behind) s₂ false is₂ t₂,
-            ← cut₂,
-            said-not (spaced last) s₃ false is₃ t₃,
-          )
-          h
+    pub line-more : (name word words : List ℕ) → not s₂ ≡ false → name ≡ first line → word ≡ first behind → words ≡ rest behind → r ≡ withMore name word words
+        → r ≡ callOf line
+    unfolding callOf
+    line-more name word words t₂ n w cut₂ h =
+        rw (
+          le-ltb 4096 (length line) l,
+          said-not (spaced line) s false is t,
+          ← cut,
+          said-not (spaced behind) s₂ false is₂ t₂,
+          ← n,
+          ← w,
+          ← cut₂,
+        )
+        h
