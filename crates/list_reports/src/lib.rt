@@ -3,8 +3,8 @@ ghost use mathlib.Core.Path.{_≡_};
 ghost use Prim.Native.Nat.{_≤_};
 ghost use lib.ListN.{length};
 ghost use Rattle.text.specs.Text.{written, put};
-ghost use Rattle.fields.specs.Fields.{number};
-ghost use Rattle.list_reports.specs.ListReports.{numbers, listed};
+ghost use Rattle.fields.specs.Fields.{each, number};
+ghost use Rattle.list_reports.specs.ListReports.{listed};
 
 // A number of the list, behind a space.
 fn one(text: &mut [u8], at: usize, n: u32) -> usize
@@ -16,7 +16,7 @@ fn one(text: &mut [u8], at: usize, n: u32) -> usize
 // All of them.
 fn numbers(text: &mut [u8], at: usize, s: &[u32]) -> usize
     requires { ⌜ at ≤ length (now text) ⌝ }
-    ensures { λ r. ⌜ written r (now (text .exit)) ≡ put (now (text .entry)) at (numbers (now (s .entry))) ⌝ }
+    ensures { λ r. ⌜ written r (now (text .exit)) ≡ put (now (text .entry)) at (each number (now (s .entry))) ⌝ }
 {
     let mut end = at;
     let mut i = 0;

@@ -10,9 +10,12 @@ use Rattle.rules.proofs.Choices.{said-not}
 use Rattle.forms.specs.declared.numbers.Number.{Number}
 use Rattle.forms.specs.declared.numbers.Number.the-variants.{Is, Wrong}
 use Rattle.script.specs.declared.Command.{Command}
+use Rattle.script.specs.declared.Command.the-variants.{Burst}
 use Rattle.script.specs.declared.Call.{Call}
-use Rattle.script.specs.Calls.{noCall, given, alone, withOne, withMore, callOf}
-use Rattle.words.specs.Words.{spaced, first, rest}
+use Rattle.script.specs.Calls.{noCall, given, alone, withOne, withTwo, withMore, callOf}
+use Rattle.forms.specs.Numbers.{decimal}
+use Rattle.pair_words.specs.PairWords.{pairsBehind}
+use Rattle.words.specs.Words.{characters, is, spaced, first, rest}
 
 -- ---- a command with its numbers
 
@@ -44,6 +47,22 @@ module _ (s r : Bool) (x a b : Call) (is : r ≡ s) where
 
   pub not-named : r ≡ false → x ≡ b → x ≡ (if s then a else b)
   not-named t e = rw (← is, t) e
+
+-- ---- a line of three words or more
+
+module _ (name a words : List ℕ) (r : Call) (b : Bool) (is-it : b ≡ is name (characters "burst")) where
+  pub more-burst : (x y : Number) → b ≡ true → x ≡ decimal a 66 → y ≡ pairsBehind words → r ≡ given Burst x y → r ≡ withMore name a words
+  unfolding withMore
+  more-burst x y t e k h = rw (← is-it, t, ← e, ← k) h
+
+  module _ (t : b ≡ false) (s : Bool) (e : s ≡ spaced words) where
+    pub more-none : s ≡ true → r ≡ noCall → r ≡ withMore name a words
+    unfolding withMore
+    more-none t₂ h = rw (← is-it, t, ← e, t₂) h
+
+    pub more-two : s ≡ false → r ≡ withTwo name a words → r ≡ withMore name a words
+    unfolding withMore
+    more-two t₂ h = rw (← is-it, t, ← e, t₂) h
 
 -- ---- a line
 

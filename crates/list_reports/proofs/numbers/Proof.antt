@@ -6,14 +6,14 @@ use Prim.Native.Nat.{_-_, _≤_}
 use lib.ListN.{length, drop}
 use Rattle.text.specs.Text.{put}
 use Rattle.text.proofs.Laws.{put-within}
-use Rattle.list_reports.specs.ListReports.{numbers}
-use Rattle.list_reports.proofs.Laws.{numbers-turn, numbers-end}
+use Rattle.fields.specs.Fields.{each, number}
+use Rattle.fields.proofs.Laws.{each-turn, each-end}
 use Rattle.list_reports.proofs.numbers.Statement.{statement}
 use Rattle.list_reports.proofs.numbers.Tie as tie
 
 abbrev Left : tie.InvT-loop
 Left text₀ at s end₀ i₀ text end i =
-    (put text end (numbers (drop i s)) ≡ put text₀ end₀ (numbers s)) × ((i ≤ length s) × ((length text ≡ length text₀) × (end ≤ length text)))
+    (put text end (each number (drop i s)) ≡ put text₀ end₀ (each number s)) × ((i ≤ length s) × ((length text ≡ length text₀) × (end ≤ length text)))
 
 pub numbers-spec : {M : Type 1} → statement M
 numbers-spec =
@@ -31,6 +31,6 @@ numbers-spec =
     let d = c .before .before in
     let l = d .before .before .before .before .loop in
     let test = d .before .before .before .loop-test in
-    (numbers-turn _ _ _ _ _ (l .i) _ (d .one .ensures) (test .taken) (l .inv .0), (omega arith, (omega arith, put-within _ _ _ _ _ (d .one .ensures)))))
+    (each-turn _ _ _ _ _ _ (l .i) _ (d .one .ensures) (test .taken) (l .inv .0), (omega arith, (omega arith, put-within _ _ _ _ _ (d .one .ensures)))))
     (λ c. search needs)
-    (λ c. search numbers-end))
+    (λ c. search each-end))
