@@ -16,3 +16,4 @@ pub const SEND_LENGTH: u32 = 12;
 pub const NO_DESCRIPTOR_OR_FRAME: u32 = 13;
 pub const ALREADY_GRANTED: u32 = 14;
 pub const WHILE_RUNNING: u32 = 15;
+pub const BURST_OR_PAIR: u32 = 16;

@@ -18,11 +18,21 @@ impl Tally {
         *self.counts.entry(kind.into()).or_default() += 1;
     }
 
+    /// How often a kind was met.
+    pub fn count(&self, kind: &str) -> usize {
+        self.counts.get(kind).copied().unwrap_or_default()
+    }
+
     /// The kinds met under `least` times.
     pub fn under(&self, least: usize) -> Vec<&str> {
+        self.rare(|_| least)
+    }
+
+    /// The kinds met less often than `least` asks of each.
+    pub fn rare(&self, least: impl Fn(&str) -> usize) -> Vec<&str> {
         self.counts
             .iter()
-            .filter(|(_, count)| **count < least)
+            .filter(|(kind, count)| **count < least(kind))
             .map(|(kind, _)| kind.as_str())
             .collect()
     }

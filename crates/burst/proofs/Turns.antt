@@ -19,13 +19,6 @@ pub turns-step : (b : Bursting) (store : List ℕ) (i : ℕ) (p : Pair) (ps : Li
 unfolding turnsOf
 turns-step b store i p ps b' e = rw e
 
--- ---- as many answers as pairs
-
-pub length-receives : (ps : List Pair) (d : Enet) (m store : List ℕ) → length (receives d m store ps .answers) ≡ length ps
-unfolding receives
-length-receives [] d m store = refl
-length-receives (p ∷ ps) d m store = let o = received d m store p in ap suc (length-receives ps (o .device) (o .memory) store)
-
 -- ---- the turns
 
 -- what the pairs give, with their answers put into a list from place i on, under the number n
@@ -39,7 +32,14 @@ turns-are [] n d m store a i = refl
 turns-are (p ∷ ps) n d m store a i =
     let o = received d m store p in turns-are ps n (o .device) (o .memory) store (set a i (o .number)) (suc i)
 
-number-receives : (ps : List Pair) (d : Enet) (m store : List ℕ) → receives d m store ps .number ≡ 0
+-- ---- as many answers as pairs
+
+pub length-receives : (ps : List Pair) (d : Enet) (m store : List ℕ) → length (receives d m store ps .answers) ≡ length ps
+unfolding receives
+length-receives [] d m store = refl
+length-receives (p ∷ ps) d m store = let o = received d m store p in ap suc (length-receives ps (o .device) (o .memory) store)
+
+pub number-receives : (ps : List Pair) (d : Enet) (m store : List ℕ) → receives d m store ps .number ≡ 0
 unfolding receives
 number-receives [] d m store = refl
 number-receives (p ∷ ps) d m store = refl

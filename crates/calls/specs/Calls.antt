@@ -9,6 +9,10 @@ use Rattle.enet.specs.Access.{write}
 use Rattle.enet.specs.Frames.{grant, receive}
 use Rattle.enet.specs.Send.{Sending, send}
 use Rattle.enet.specs.Run.{Running, run}
+use Rattle.pair.specs.declared.Pair.{Pair}
+use Rattle.pair.specs.Turn.{Bursting}
+use Rattle.burst.specs.Burst.{burstOf}
+use Rattle.burst.specs.Taken.{taken, answersInside}
 use Rattle.calls.specs.Looks.{Look, Seen, sees}
 
 -- the device, and the memory that the caller lends it
@@ -21,12 +25,15 @@ pub data Call : Type 0 where
   registerWrite : (offset value : ℕ) → Call
   grantCall : (address : ℕ) → Call
   receiveCall : (frame : List ℕ) → Call
+  -- a burst of the pairs of two lists. A burst over a list of pairs is the one over its starts and its lengths (`burst-apart`
+  -- in `burst`)
+  burstCall : (store starts lengths answers : List ℕ) → Call
   sendCall : (output : List ℕ) → Call
   stepRun : (output : List ℕ) (allowance : ℕ) → Call
 
 -- what a call gives: its number (0 where it has none), the bench that it leaves, a value (that a look sees, or how many bytes
--- were sent), the steps of a step run, bytes (the output of a send, or what a look sees), and the answers of its receives, in
--- order
+-- were sent), the steps of a step run, bytes (the output of a send, or what a look sees), the answers of its receives, in
+-- order, and the answer list that a burst leaves
 pub record Result : Type 0 where
   pub number : ℕ
   pub bench : Bench
@@ -34,13 +41,14 @@ pub record Result : Type 0 where
   pub steps : ℕ
   pub bytes : List ℕ
   pub answers : List ℕ
+  pub list : List ℕ
 
 -- a number, and the bench
 abbrev pub answered : ℕ → Bench → Result
-answered n b = record { number = n; bench = b; value = 0; steps = 0; bytes = []; answers = [] }
+answered n b = record { number = n; bench = b; value = 0; steps = 0; bytes = []; answers = []; list = [] }
 
 abbrev pub ofLook : Bench → Seen → Result
-ofLook b s = record { number = s .number; bench = b; value = s .value; steps = 0; bytes = s .bytes; answers = [] }
+ofLook b s = record { number = s .number; bench = b; value = s .value; steps = 0; bytes = s .bytes; answers = []; list = [] }
 
 -- a register access lends no memory
 abbrev pub ofWrite : Bench → Answered → Result
@@ -57,6 +65,19 @@ ofReceive o = record {
   steps = 0;
   bytes = [];
   answers = o .number ∷ [];
+  list = [];
+}
+
+-- a pair outside the store is no receive
+abbrev pub ofBurst : List ℕ → List Pair → Bursting → Result
+ofBurst store pairs r = record {
+  number = r .number;
+  bench = record { device = r .device; memory = r .memory };
+  value = 0;
+  steps = 0;
+  bytes = [];
+  answers = answersInside store pairs (r .answers);
+  list = r .answers;
 }
 
 abbrev pub ofSending : Sending → Result
@@ -67,6 +88,7 @@ ofSending s = record {
   steps = 0;
   bytes = s .output;
   answers = [];
+  list = [];
 }
 
 abbrev pub ofRunning : Running → Result
@@ -77,6 +99,7 @@ ofRunning r = record {
   steps = r .steps;
   bytes = r .output;
   answers = [];
+  list = [];
 }
 
 abbrev pub call : Bench → Call → Result
@@ -84,5 +107,7 @@ call b (looks look) = ofLook b (sees (b .device) (b .memory) look)
 call b (registerWrite offset value) = ofWrite b (write (b .device) offset value)
 call b (grantCall address) = ofGrant (grant (b .device) (b .memory) address)
 call b (receiveCall frame) = ofReceive (receive (b .device) (b .memory) frame)
+call b (burstCall store starts lengths answers) =
+    ofBurst store (taken starts lengths answers) (burstOf (b .device) (b .memory) store starts lengths answers)
 call b (sendCall output) = ofSending (send (b .device) (b .memory) output)
 call b (stepRun output allowance) = ofRunning (run (b .device) (b .memory) output allowance)

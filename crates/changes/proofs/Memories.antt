@@ -18,7 +18,7 @@ use Rattle.enet.specs.Run.{Running, sends, run}
 use Rattle.calls.specs.Calls.{Bench, Call, grantCall, receiveCall, sendCall, stepRun, call}
 use Rattle.enet.proofs.Sends.{send-unsent}
 use Rattle.outputs.specs.Runs.{Stand, begins, single, further}
-use Rattle.changes.specs.Regions.{Region, statusWord, frameBytes, sentWords, regions, Outside, SameOutside}
+use Rattle.changes.specs.Regions.{Region, statusWord, delivery, sentWords, regions, Outside, SameOutside}
 use Rattle.enet.proofs.Ways.{by-grant, by-receive, by-send}
 
 abbrev pub MemoryKept : Bench → Call → Type 0
@@ -35,7 +35,7 @@ stored m at s rs = record {
 }
 
 -- one change behind another
-both : (rs ss : List Region) (m n o : List ℕ) → ((j : ℕ) → Outside j rs → Outside j ss)
+pub both : (rs ss : List Region) (m n o : List ℕ) → ((j : ℕ) → Outside j rs → Outside j ss)
     → SameOutside rs m n → SameOutside ss n o → SameOutside rs m o
 both rs ss m n o h p q = record { size = q .size ∙ p .size; bytes = λ j k. q .bytes j (h j k) ∙ p .bytes j k }
 
@@ -50,16 +50,21 @@ grant-kept b address =
     by-grant (λ o. SameOutside (statusWord b address ∷ []) (b .memory) (o .memory)) (b .device) (b .memory) address
     (same _ _) (same _ _) (same _ _) (status-stored b (b .memory) address _ [])
 
-pub receive-kept : (b : Bench) (frame : List ℕ) → MemoryKept b (receiveCall frame)
+-- a delivery
+pub delivered-kept : (b : Bench) (frame : List ℕ)
+    → SameOutside (delivery b frame) (b .memory) (delivered (b .device .base) (b .memory) (b .device .registers .rx .place) frame)
 unfolding delivered
-receive-kept b frame =
+delivered-kept b frame =
     let words = statusWord b (b .device .registers .rx .place) ∷ [] in
     let at = offset (b .device .base) (start (b .device .base) (b .memory) (b .device .registers .rx .place)) in
-    by-receive (λ o. SameOutside (frameBytes b frame ∷ words) (b .memory) (o .memory)) (b .device) (b .memory) frame
-    (same _ _) (same _ _) (same _ _) (same _ _) (same _ _) (same _ _) (same _ _)
-    (both _ words _ _ _ (λ j h. h .1)
+    both _ words _ _ _ (λ j h. h .1)
     (stored (b .memory) at frame words)
-    (status-stored b (store (b .memory) at frame) (b .device .registers .rx .place) (length frame) []))
+    (status-stored b (store (b .memory) at frame) (b .device .registers .rx .place) (length frame) [])
+
+pub receive-kept : (b : Bench) (frame : List ℕ) → MemoryKept b (receiveCall frame)
+receive-kept b frame =
+    by-receive (λ o. SameOutside (delivery b frame) (b .memory) (o .memory)) (b .device) (b .memory) frame
+    (same _ _) (same _ _) (same _ _) (same _ _) (same _ _) (same _ _) (same _ _) (delivered-kept b frame)
 
 pub send-kept : (b : Bench) (output : List ℕ) (rs : List Region)
     → SameOutside (statusWord b (b .device .registers .tx .place) ∷ rs) (b .memory) (call b (sendCall output) .bench .memory)

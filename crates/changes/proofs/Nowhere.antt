@@ -10,7 +10,7 @@ use Rattle.enet.specs.declared.Enet.{Enet}
 use Rattle.enet.specs.Access.{read}
 use Rattle.enet.specs.Send.{send}
 use Rattle.enet.specs.Run.{Running, sends, run}
-use Rattle.calls.specs.Calls.{Bench, Call, looks, registerWrite, grantCall, receiveCall, sendCall, stepRun}
+use Rattle.calls.specs.Calls.{Bench, Call, looks, registerWrite, grantCall, receiveCall, burstCall, sendCall, stepRun}
 use Rattle.enet.proofs.Sends.{send-unsent}
 use Rattle.changes.specs.Nowhere.{Kept, NowhereElse}
 use Rattle.enet.proofs.Ways.{by-grant, by-receive}
@@ -18,6 +18,8 @@ use Rattle.outputs.proofs.Sends.{send-front, send-size}
 use Rattle.changes.proofs.Memories.{same, grant-kept, receive-kept, send-kept, run-kept}
 use Rattle.outputs.proofs.Outputs.{run-front}
 use Rattle.changes.proofs.Devices.{write-parts, receive-parts, send-parts, run-parts}
+use Rattle.burst.proofs.Laws.{length-burst}
+use Rattle.changes.proofs.Bursts.{burst-kept, burst-refused, burst-parts, burst-status}
 use Rattle.changes.proofs.Statuses.{receive-status, send-status, run-status}
 
 -- ---- a refusal changes no byte
@@ -51,6 +53,11 @@ kept b (receiveCall frame) = record {
       (λ _. refl) (λ _. refl) (λ _. refl) (λ _. refl) (λ _. refl) (λ _. refl) (λ _. refl) (λ h. absurd (h refl)) n;
   device = receive-parts (b .device) (b .memory) frame;
 }
+kept b (burstCall store starts lengths answers) = record {
+  memory = burst-kept b store starts lengths answers;
+  refused = λ n z. burst-refused b store starts lengths answers n;
+  device = burst-parts b store starts lengths answers;
+}
 kept b (sendCall output) = record {
   memory = send-kept b output [];
   refused = λ n z. send-unsent (b .device) (b .memory) output n .memory;
@@ -78,6 +85,8 @@ changes-nowhere-else = record {
   sendSize = send-size;
   runOutput = run-front;
   receiveStatus = receive-status;
+  burstStatus = burst-status;
+  burstList = λ b store starts lengths answers. length-burst (b .device) (b .memory) store starts lengths answers;
   sendStatus = λ b output. send-status (b .device) (b .memory) output;
   runStatus = run-status;
 }

@@ -16,7 +16,7 @@ use Rattle.calls.specs.Calls.{Bench, receiveCall, stepRun}
 use Rattle.changes.specs.Parts.{Raises, unchanged, thenSet, receiveBits, sendBits, StatusRaised}
 use Rattle.enet.proofs.Ways.{by-receive, by-send}
 
-both : {masks : List ℕ} {i j k : ℕ} → Raises masks i j → Raises masks j k → Raises masks i k
+pub both : {masks : List ℕ} {i j k : ℕ} → Raises masks i j → Raises masks j k → Raises masks i k
 both p unchanged = p
 both p (thenSet mask e q) = thenSet mask e (both p q)
 

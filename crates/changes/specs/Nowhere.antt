@@ -3,9 +3,10 @@ use Prim.Native.Nat.{ℕ}
 use mathlib.Core.Path.{_≡_}
 use mathlib.Core.Logic.{_≢_}
 use mathlib.Core.List.{List}
+use lib.ListN.{length}
 use Rattle.enet.specs.declared.Enet.{Enet}
 use Rattle.enet.specs.Access.{read}
-use Rattle.calls.specs.Calls.{Bench, Call, receiveCall, sendCall, stepRun, call}
+use Rattle.calls.specs.Calls.{Bench, Call, receiveCall, burstCall, sendCall, stepRun, call}
 use Rattle.outputs.specs.Outputs.{FrontOnly, FrameSize}
 use Rattle.changes.specs.Regions.{regions, SameOutside}
 use Rattle.changes.specs.Parts.{PartsKept, receiveBits, sendBits, StatusRaised}
@@ -25,5 +26,10 @@ pub record NowhereElse : Type 0 where
   pub sendSize : (b : Bench) (output : List ℕ) → call b (sendCall output) .number ≡ 0 → FrameSize (call b (sendCall output) .value)
   pub runOutput : (b : Bench) (output : List ℕ) (allowance : ℕ) → FrontOnly output (call b (stepRun output allowance))
   pub receiveStatus : (b : Bench) (frame : List ℕ) → StatusRaised receiveBits b (receiveCall frame)
+  pub burstStatus : (b : Bench) (store starts lengths answers : List ℕ)
+      → StatusRaised receiveBits b (burstCall store starts lengths answers)
+  -- "Answers go into a lent list of numbers", one for each pair: the list keeps its length, refused or not
+  pub burstList : (b : Bench) (store starts lengths answers : List ℕ)
+      → length (call b (burstCall store starts lengths answers) .list) ≡ length answers
   pub sendStatus : (b : Bench) (output : List ℕ) → StatusRaised sendBits b (sendCall output)
   pub runStatus : (b : Bench) (output : List ℕ) (allowance : ℕ) → StatusRaised sendBits b (stepRun output allowance)

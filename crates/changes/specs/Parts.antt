@@ -14,7 +14,7 @@ use Rattle.registers.specs.Registers.{withStatus, withEnable, withFilter}
 use Rattle.engine.specs.Engine.{nextWritten}
 use Rattle.enet.specs.Device.{withRegisters, withRx, withTx}
 use Rattle.registers.specs.Access.{registerAt}
-use Rattle.calls.specs.Calls.{Bench, Call, looks, registerWrite, grantCall, receiveCall, sendCall, stepRun, call}
+use Rattle.calls.specs.Calls.{Bench, Call, looks, registerWrite, grantCall, receiveCall, burstCall, sendCall, stepRun, call}
 use Rattle.changes.specs.OneOf.{oneOf}
 
 -- ---- d is the device before, and e the one after
@@ -61,6 +61,7 @@ PartsKept (looks look) d e = e ≡ d
 PartsKept (registerWrite address value) d e = e ≡ registerOf (registerAt address) d e
 PartsKept (grantCall address) d e = e ≡ d
 PartsKept (receiveCall frame) d e = ReceiveOnly d e
+PartsKept (burstCall store starts lengths answers) d e = ReceiveOnly d e
 PartsKept (sendCall output) d e = SendOnly d e
 PartsKept (stepRun output allowance) d e = SendOnly d e
 

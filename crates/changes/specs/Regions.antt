@@ -2,13 +2,14 @@
 use Prim.Native.Nat.{ℕ, zero, suc, _+_, _≤_, _<_}
 use mathlib.Core.Path.{_≡_}
 use mathlib.Core.Logic.{_⊎_}
-use mathlib.Core.List.{List, [], _∷_}
+use mathlib.Core.List.{List, [], _∷_, _++_}
 use lib.Dec.{eqb}
 use lib.ListN.{length, getD}
 use Rattle.rules.specs.Choice.{if_then_else_}
 use Rattle.window.specs.Window.{offset}
 use Rattle.descriptor.specs.Descriptor.{start}
-use Rattle.calls.specs.Calls.{Bench, Call, looks, registerWrite, grantCall, receiveCall, sendCall, stepRun, call}
+use Rattle.calls.specs.Calls.{Bench, Call, looks, registerWrite, grantCall, receiveCall, burstCall, sendCall, stepRun, call}
+use Rattle.calls.specs.Handed.{handed}
 use Rattle.outputs.specs.Runs.{Stand, begins, single, further}
 
 -- so many bytes of the lent memory, from an offset on
@@ -27,6 +28,17 @@ frameBytes b frame = record {
   size = length frame;
 }
 
+-- "A delivery writes the whole frame .. then the packet status word"
+abbrev pub delivery : Bench → List ℕ → List Region
+delivery b frame = frameBytes b frame ∷ statusWord b (b .device .registers .rx .place) ∷ []
+
+-- of single receives one behind the other: what each delivery writes, as the receive before it left the bench
+unfoldable pub deliveries : Bench → List (List ℕ) → List Region
+deliveries b [] = []
+deliveries b (frame ∷ frames) =
+    let r = call b (receiveCall frame) in
+    (if eqb (r .number) 0 then delivery b frame else []) ++ deliveries (r .bench) frames
+
 -- the packet status words of the descriptors that a run's next k single sends sent
 abbrev pub sentWords : ℕ → Stand → List Region
 sentWords zero s = []
@@ -42,7 +54,8 @@ regions b (registerWrite address value) = []
 -- "Granting a receive descriptor writes its packet status word .. No other byte changes."
 regions b (grantCall address) = statusWord b address ∷ []
 -- "A delivery writes the whole frame .. then the packet status word .. Buffer bytes past the frame stay."
-regions b (receiveCall frame) = frameBytes b frame ∷ statusWord b (b .device .registers .rx .place) ∷ []
+regions b (receiveCall frame) = delivery b frame
+regions b (burstCall store starts lengths answers) = deliveries b (handed (burstCall store starts lengths answers) .frames)
 -- "It marks the descriptor returned"
 regions b (sendCall output) = statusWord b (b .device .registers .tx .place) ∷ []
 regions b (stepRun output allowance) = sentWords (call b (stepRun output allowance) .steps) (begins b output)

@@ -1,1 +1,1 @@
-// Lists on a ring of one and on a ring of 32 that demand 3 speaks of: proofs/. No code.
+// Lists on a ring of one, of two and of 32 that demand 3 speaks of, a burst among them: proofs/. No code.

@@ -27,6 +27,7 @@ onward s r = record {
   steps = s .steps + r .steps;
   bytes = s .written ++ r .output;
   answers = [];
+  list = [];
 }
 
 record From (s : Stand) (left : ℕ) (r : Running) : Type 0 where

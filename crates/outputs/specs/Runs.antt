@@ -42,6 +42,7 @@ ended n s = record {
   steps = s .steps;
   bytes = s .written ++ s .rest;
   answers = [];
+  list = [];
 }
 
 -- "until one does not send or the allowance is used. It returns the steps made, the last unsuccessful one counted, the bytes

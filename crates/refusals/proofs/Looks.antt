@@ -7,14 +7,14 @@ use Rattle.calls.specs.Looks.{Look, registerRead, lineRead, readingNumberCall, 
 use Rattle.calls.specs.Calls.{Bench, looks, ofLook}
 use Rattle.changes.specs.OneOf.{oneOf}
 use Rattle.changes.proofs.Branches.{by-read, by-reading}
-use Rattle.refusals.specs.Numbers.{lookNumbers}
+use Rattle.refusals.specs.Numbers.{lookNumbers, greatest}
 use Rattle.refusals.specs.Rows.{effect, row}
 use Rattle.refusals.specs.Refusals.{Leaves}
 use Rattle.refusals.proofs.Given.{allSmall}
 
 pub record LookSays (b : Bench) (l : Look) : Type 0 where
   pub among : oneOf (sees (b .device) (b .memory) l .number) (0 ∷ lookNumbers l) ≡ true
-  pub small : allSmall 15 (0 ∷ lookNumbers l) ≡ true
+  pub small : allSmall greatest (0 ∷ lookNumbers l) ≡ true
   pub leaves : sees (b .device) (b .memory) l .number ≢ 0 → Leaves b (looks l)
 
 pub look-says : (b : Bench) (l : Look) → LookSays b l

@@ -4,21 +4,23 @@ use mathlib.Core.Bool.{true}
 use mathlib.Core.Logic.{_≢_}
 use mathlib.Core.List.{[], _∷_}
 use Rattle.enet.proofs.Ways.{by-grant, by-receive}
-use Rattle.calls.specs.Calls.{Bench, Call, looks, registerWrite, grantCall, receiveCall, sendCall, stepRun, call}
+use Rattle.calls.specs.Calls.{Bench, Call, looks, registerWrite, grantCall, receiveCall, burstCall, sendCall, stepRun, call}
 use Rattle.changes.specs.OneOf.{oneOf}
 use Rattle.changes.proofs.Branches.{by-new, by-write}
 use Rattle.changes.proofs.Nowhere.{changes-nowhere-else}
-use Rattle.refusals.specs.Numbers.{numbers, NumbersOf}
+use Rattle.refusals.specs.Numbers.{numbers, NumbersOf, greatest}
 use Rattle.refusals.specs.Rows.{rowOfNew}
 use Rattle.refusals.specs.Refusals.{ByRow, whole, RefusedLeaves}
 use Rattle.refusals.proofs.Given.{send-number, run-number, allSmall, small}
 use Rattle.refusals.proofs.Looks.{look-says}
 use Rattle.refusals.proofs.Refused.{write-row, grant-row, receive-row, send-row, run-row}
+use Rattle.inputs.proofs.Receives.{pair-by-pair}
+use Rattle.refusals.proofs.Bursts.{burst-number, burst-row, pair-number, pair-sixteen, pair-row}
 use Rattle.refusals.proofs.Readings.{reading-row, empty-part}
 
 record Says (b : Bench) (c : Call) : Type 0 where
   among : oneOf (call b c .number) (0 ∷ numbers c) ≡ true
-  small : allSmall 15 (0 ∷ numbers c) ≡ true
+  small : allSmall greatest (0 ∷ numbers c) ≡ true
   leaves : call b c .number ≢ 0 → ByRow b c
 
 says : (b : Bench) (c : Call) → Says b c
@@ -45,6 +47,11 @@ says b (receiveCall frame) = record {
   small = refl;
   leaves = λ n. whole (receive-row b frame n);
 }
+says b (burstCall store starts lengths answers) = record {
+  among = burst-number b store starts lengths answers;
+  small = refl;
+  leaves = λ n. whole (burst-row b store starts lengths answers n);
+}
 says b (sendCall output) = record {
   among = send-number (b .device) (b .memory) output;
   small = refl;
@@ -60,13 +67,16 @@ pub numbers-of : NumbersOf
 numbers-of = record {
   ofNew = λ base window. by-new (λ a. oneOf (a .number) (0 ∷ 1 ∷ []) ≡ true) base window refl refl;
   ofCall = λ b c. says b c .among;
-  small = λ b c. small 15 (call b c .number) (0 ∷ numbers c) (says b c .small) (says b c .among);
+  small = λ b c. small greatest (call b c .number) (0 ∷ numbers c) (says b c .small) (says b c .among);
+  ofPair = λ b store starts lengths answers z k l. pair-number _ _ _ _ _ (pair-by-pair b store starts lengths answers z k l);
+  sixteen = λ b store starts lengths answers z k l. pair-sixteen _ _ _ _ _ (pair-by-pair b store starts lengths answers z k l);
 }
 
 pub refused-leaves : RefusedLeaves
 refused-leaves = record {
   ofNew = λ base window. by-new (λ a. a .number ≢ 0 → a ≡ rowOfNew) base window (λ h. absurd (h refl)) (λ _. refl);
   ofCall = λ b c. says b c .leaves;
+  ofPair = λ b store starts lengths answers z k l n. pair-row _ _ _ _ _ (pair-by-pair b store starts lengths answers z k l) n;
   ofRead = λ d offset _. changes-nowhere-else .registerRead d offset;
   ofReading = reading-row;
   emptyPart = empty-part;

@@ -1,5 +1,5 @@
--- What the functions of this crate leave, from what their calls leave; and the turns of the two loops. Assumes nothing.
-use mathlib.Core.Path.{_≡_, refl}
+-- What the functions of this crate leave, from what their calls leave; and the turns of the loops. Assumes nothing.
+use mathlib.Core.Path.{_≡_, refl, ap, _∙_}
 use mathlib.Core.List.{List}
 use Prim.Native.Nat.{ℕ, zero, suc, _+_, _-_, _≤_, _<_}
 use native.Mathlib.Omega.{arith}
@@ -7,11 +7,13 @@ use Rattle.packet_status.specs.PacketStatus.{withPacketStatus, grantedStatus}
 use Rattle.enet.specs.declared.Enet.{Enet}
 use Rattle.enet.specs.declared.Answered.{Answered}
 use Rattle.enet.specs.declared.Sent.{Sent}
-use Rattle.enet.specs.Device.{outcome, new}
+use Rattle.enet.specs.Device.{Outcome, outcome, new}
 use Rattle.enet.specs.Access.{write}
 use Rattle.enet.specs.Frames.{grant, receive}
 use Rattle.enet.specs.Send.{sending, send}
-use Rattle.speed.specs.Rounds.{bench, passed, received, receiveRound, receiveRounds, transmitted, sendRound, sendRounds}
+use Rattle.pair.specs.Turn.{bursting}
+use Rattle.burst.specs.Burst.{burstOf}
+use Rattle.speed.specs.Rounds.{bench, passed, received, rounds, receiveRound, gave, ofBurst, transmitted, sendRound, sendRounds}
 
 pub bench-is : (w : ℕ) (n a b c d : Answered) → n ≡ new 0 w → a ≡ write (n .device) 0x404 0x100 → b ≡ write (a .device) 0x408 2
     → c ≡ write (b .device) 0x10 5 → d ≡ write (c .device) 0x30 5 → d .device ≡ bench w
@@ -25,16 +27,21 @@ pub receive-round-is : (d : Enet) (m f : List ℕ) (g r : Answered) (m' m″ : L
 unfolding receiveRound
 receive-round-is d m f g r m' m″ e h = rw (← e) h
 
-pub receive-turn : (left taken p : ℕ) (d : Enet) (m f : List ℕ) (a : Answered) (m' : List ℕ) → 0 < left → outcome a m' ≡ receiveRound d m f
-    → p ≡ passed (a .number) → receiveRounds (left - 1) (taken + p) (a .device) m' f ≡ receiveRounds left taken d m f
-unfolding receiveRounds
-receive-turn zero taken p d m f a m' h e q = absurd (omega arith)
-receive-turn (suc left) taken p d m f a m' h e q = let k : suc left - 1 ≡ left = omega arith in rw (k, ← e, q)
+module _ (step : Enet → List ℕ → Outcome) where
+  pub rounds-turn : (left taken p : ℕ) (d : Enet) (m : List ℕ) (a : Answered) (m' : List ℕ) → 0 < left → outcome a m' ≡ step d m
+      → p ≡ passed (a .number) → rounds step (left - 1) (taken + p) (a .device) m' ≡ rounds step left taken d m
+  unfolding rounds
+  rounds-turn zero taken p d m a m' h e q = absurd (omega arith)
+  rounds-turn (suc left) taken p d m a m' h e q = let k : suc left - 1 ≡ left = omega arith in rw (k, ← e, q)
 
-pub receive-end : (left taken : ℕ) (d : Enet) (m f : List ℕ) → left ≤ 0 → receiveRounds left taken d m f ≡ received taken m
-unfolding receiveRounds
-receive-end zero taken d m f h = refl
-receive-end (suc left) taken d m f h = absurd (omega arith)
+  pub rounds-end : (left taken : ℕ) (d : Enet) (m : List ℕ) → left ≤ 0 → rounds step left taken d m ≡ received taken m
+  unfolding rounds
+  rounds-end zero taken d m h = refl
+  rounds-end (suc left) taken d m h = absurd (omega arith)
+
+pub burst-gave : (d e : Enet) (m store ss ns a : List ℕ) (r : Answered) (m' a' : List ℕ) → d ≡ e
+    → bursting r m' a' ≡ burstOf d m store ss ns a → gave (r .number) m' a' ≡ ofBurst (burstOf e m store ss ns a)
+burst-gave d e m store ss ns a r m' a' h q = ap ofBurst q ∙ ap (λ x. ofBurst (burstOf x m store ss ns a)) h
 
 -- ---- frames out
 

@@ -10,6 +10,7 @@ use Rattle.enet.specs.Device.{Outcome, new}
 use Rattle.enet.specs.Access.{write}
 use Rattle.enet.specs.Frames.{grant, receive}
 use Rattle.enet.specs.Send.{Sending, send}
+use Rattle.pair.specs.Turn.{Bursting}
 
 -- a bench over a window at address 0: MAC address high and low for station 02-00-00-00-00-01, and both engines started, at
 -- address 0, by their start registers
@@ -39,14 +40,34 @@ pub record Received : Type 0 where
 abbrev pub received : ℕ → List ℕ → Received
 received n m = record { taken = n; memory = m }
 
+-- rounds of a call that is answered, and how many of its answers were 0
+unfoldable pub rounds : (Enet → List ℕ → Outcome) → ℕ → ℕ → Enet → List ℕ → Received
+rounds step zero taken d m = received taken m
+rounds step (suc left) taken d m =
+    let o = step d m in rounds step left (taken + passed (o .number)) (o .device) (o .memory)
+
 -- the descriptor at address 0 is granted, and the frame comes in
 unfoldable pub receiveRound : Enet → List ℕ → List ℕ → Outcome
 receiveRound d m f = let g = grant d m 0 in receive (g .device) (g .memory) f
 
-unfoldable pub receiveRounds : ℕ → ℕ → Enet → List ℕ → List ℕ → Received
-receiveRounds zero taken d m f = received taken m
-receiveRounds (suc left) taken d m f =
-    let o = receiveRound d m f in receiveRounds left (taken + passed (o .number)) (o .device) (o .memory) f
+abbrev pub receiveRounds : ℕ → ℕ → Enet → List ℕ → List ℕ → Received
+receiveRounds left taken d m f = rounds (λ d m. receiveRound d m f) left taken d m
+
+-- single receives, with no grant in between
+abbrev pub singleReceives : ℕ → ℕ → Enet → List ℕ → List ℕ → Received
+singleReceives left taken d m f = rounds (λ d m. receive d m f) left taken d m
+
+-- one burst: its number, the memory and the answers that it leaves
+pub record Gave : Type 0 where
+  pub number : ℕ
+  pub memory : List ℕ
+  pub answers : List ℕ
+
+abbrev pub gave : ℕ → List ℕ → List ℕ → Gave
+gave n m a = record { number = n; memory = m; answers = a }
+
+abbrev pub ofBurst : Bursting → Gave
+ofBurst b = gave (b .number) (b .memory) (b .answers)
 
 -- ---- frames out
 

@@ -4,7 +4,8 @@ ghost use mathlib.Core.Path.{_≡_};
 ghost use Prim.Native.Nat.{_≤_};
 ghost use Rattle.enet.specs.Device.{outcome};
 ghost use Rattle.enet.specs.Send.{sending};
-ghost use Rattle.speed.specs.Rounds.{bench, windowOf, passed, received, receiveRound, receiveRounds, transmitted, sendRound, sendRounds};
+ghost use Rattle.burst.specs.Burst.{burstOf};
+ghost use Rattle.speed.specs.Rounds.{bench, windowOf, passed, received, receiveRound, receiveRounds, singleReceives, gave, ofBurst, transmitted, sendRound, sendRounds};
 use enet::Answered;
 use enet::Enet;
 use enet::Sent;
@@ -51,6 +52,38 @@ pub extern "C" fn speed_receive(memory: &mut [u8], frame: &[u8], rounds: u32) ->
         left -= 1;
     }
     taken
+}
+
+// Single receives of one frame, with no grant in between; how many were taken.
+#[no_mangle]
+pub extern "C" fn speed_singles(memory: &mut [u8], frame: &[u8], rounds: u32) -> u32
+    ensures { λ r. ⌜ received r (now (memory .exit)) ≡ singleReceives rounds 0 (bench (windowOf (now (memory .entry)))) (now (memory .entry)) (now (frame .entry)) ⌝ }
+{
+    let mut device = bench((memory.len() % 0x1_0000_0000) as u32);
+    let mut taken = 0;
+    let mut left = rounds;
+    while 0 < left {
+        let one = device.receive(memory, frame);
+        device = one.device;
+        taken += passed(one.number);
+        left -= 1;
+    }
+    taken
+}
+
+// One burst; its number.
+#[no_mangle]
+pub extern "C" fn speed_burst(
+    memory: &mut [u8],
+    store: &[u8],
+    starts: &[u32],
+    lengths: &[u32],
+    answers: &mut [u32],
+) -> u32
+    ensures { λ r. ⌜ gave r (now (memory .exit)) (now (answers .exit)) ≡ ofBurst (burstOf (bench (windowOf (now (memory .entry)))) (now (memory .entry)) (now (store .entry)) (now (starts .entry)) (now (lengths .entry)) (now (answers .entry))) ⌝ }
+{
+    let device = bench((memory.len() % 0x1_0000_0000) as u32);
+    burst::burst(device, memory, store, starts, lengths, answers).number
 }
 
 // Writes VALID into the descriptor at address 0, as the firmware does, and sends its frame.

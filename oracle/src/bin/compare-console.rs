@@ -10,9 +10,6 @@ use std::process::ExitCode;
 /// Console lines in all, and in one run of the program.
 const CALLS: usize = 400_000;
 const CALLS_A_RUN: usize = 4_000;
-/// Each number and each call's answer must be met this often in a whole comparison, in a shorter
-/// one by its share.
-const LEAST: usize = 100;
 
 fn main() -> ExitCode {
     let words: Vec<String> = std::env::args().skip(1).collect();
@@ -32,17 +29,24 @@ fn main() -> ExitCode {
         }
     }
     print!("{tally}");
-    let least = (LEAST * calls / CALLS).clamp(1, LEAST);
-    let rare = tally.under(least);
+    let rare = tally.rare(|kind| least(kind, calls));
     if !rare.is_empty() {
-        println!(
-            "compare-console: met under {least} times: {}",
-            rare.join("; ")
-        );
+        let told = rare.iter().map(|kind| {
+            let (met, least) = (tally.count(kind), least(kind, calls));
+            format!("{kind} ({met} times, not {least})")
+        });
+        let told: Vec<String> = told.collect();
+        println!("compare-console: met too seldom: {}", told.join("; "));
         return ExitCode::FAILURE;
     }
     println!("compare-console: no difference");
     ExitCode::SUCCESS
+}
+
+/// How often a kind must be met: in a shorter comparison by its share.
+fn least(kind: &str, calls: usize) -> usize {
+    let whole = compare::answers::least(kind);
+    (whole * calls / CALLS).clamp(1, whole)
 }
 
 fn arguments(words: &[String]) -> Option<(&str, usize, u64)> {

@@ -1,15 +1,20 @@
 //! Counts the answers that a comparison meets, and names those it must.
 
+use super::bursts;
 use crate::tally::Tally;
 use std::fmt;
 
+/// How often each number and each call's answer must be met in a whole comparison.
+const LEAST: usize = 100;
+
 /// Calls whose answer is a number.
-const NUMBERED: [&str; 8] = [
-    "new", "read", "write", "grant", "frame", "send", "run", "show",
+const NUMBERED: [&str; 9] = [
+    "new", "read", "write", "grant", "frame", "burst", "send", "run", "show",
 ];
 
-/// Counts an answer under its call and, if it is a number, under that.
-pub fn count(tally: &mut Tally, answer: &str) {
+/// Counts the answer to a line under its call and, if it is a number, under that.
+pub fn count(tally: &mut Tally, line: &[u8], answer: &str) {
+    bursts::count(tally, line, answer);
     let mut words = answer.split(' ');
     let call = words.next().unwrap_or_default();
     let result = words.next().unwrap_or_default();
@@ -30,12 +35,13 @@ fn number_name(number: impl fmt::Display) -> String {
 }
 
 /// Answers that a whole comparison must have met, by call.
-const ANSWERS: [(&str, &[u32]); 8] = [
+const ANSWERS: [(&str, &[u32]); 9] = [
     ("new", &[0, 1]),
     ("read", &[0, 2]),
     ("write", &[0, 2, 15]),
     ("grant", &[0, 11, 13, 14]),
     ("frame", &[0, 3, 4, 5, 6, 7, 8, 11]),
+    ("burst", &[0, 16]),
     ("send", &[0, 3, 7, 8, 9, 11, 12]),
     ("run", &[0, 3, 7, 8, 9, 10, 11, 12]),
     ("show", &[0, 11, 13]),
@@ -43,7 +49,8 @@ const ANSWERS: [(&str, &[u32]); 8] = [
 
 /// Names every answer there is, so that one never met is seen.
 pub fn expect(tally: &mut Tally) {
-    for number in 0..16 {
+    bursts::expect(tally);
+    for number in 0..=16 {
         tally.expect(number_name(number));
     }
     for (call, numbers) in ANSWERS {
@@ -66,6 +73,14 @@ pub fn expect(tally: &mut Tally) {
     }
 }
 
+/// How often a kind must be met in a whole comparison.
+pub fn least(kind: &str) -> usize {
+    match bursts::is_answer(kind) {
+        true => bursts::ANSWER_LEAST,
+        false => LEAST,
+    }
+}
+
 #[cfg(test)]
 mod tests {
     use super::*;
@@ -80,11 +95,11 @@ mod tests {
             "peek 00",
             "ring yes",
         ] {
-            count(&mut tally, answer);
+            count(&mut tally, b"", answer);
         }
         for kind in ["frame 11", "grant 11", "peek", "peek outside", "ring yes"] {
-            assert!(tally.under(2).contains(&kind));
+            assert_eq!(tally.count(kind), 1);
         }
-        assert!(!tally.under(2).contains(&"number 11"));
+        assert_eq!(tally.count("number 11"), 2);
     }
 }

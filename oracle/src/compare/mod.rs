@@ -1,6 +1,7 @@
 //! Compares a bench console program with the oracle's console.
 
 pub mod answers;
+mod bursts;
 mod shorten;
 
 pub use shorten::report;
@@ -49,7 +50,7 @@ pub fn difference(program: &Path, script: &Script, tally: &mut Tally) -> Option<
         let Some(wanted) = console.take(line) else {
             continue;
         };
-        answers::count(tally, &wanted);
+        answers::count(tally, line, &wanted);
         let got = written.next().unwrap_or(b"");
         if got != format!("{wanted}\n").as_bytes() {
             let got = match got {

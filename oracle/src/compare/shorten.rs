@@ -65,4 +65,15 @@ mod tests {
         assert!(report.starts_with("the script, shortened:\nline\nit differs at line 1\n"));
         assert!(report.ends_with("the oracle: line 0\nthe bench:  line\n"));
     }
+
+    #[test]
+    fn a_burst_is_shown_as_it_was_given() {
+        let silent = Path::new("true");
+        let script = ["# one", "burst 2 00fF 0 2 0 3"].map(|line| line.into());
+        let script = script.to_vec();
+        let found = difference(silent, &script, &mut Tally::default()).unwrap();
+        let report = report(silent, &script, &found);
+        assert!(report.starts_with("the script, shortened:\nburst 2 00fF 0 2 0 3\nit differs"));
+        assert!(report.contains("the oracle: burst 0 3 16\n"));
+    }
 }

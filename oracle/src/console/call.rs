@@ -1,5 +1,6 @@
 //! The calls that a console line can name.
 
+use super::burst::Burst;
 use super::parse::{decimal, hexadecimal};
 use super::MEMORY;
 use crate::hex;
@@ -19,6 +20,7 @@ pub enum Call {
     Line,
     Grant { address: u32 },
     Frame { bytes: Vec<u8> },
+    Burst(Burst),
     Send { room: u32 },
     Run { allowance: u32, room: u32 },
     Show { address: u32 },
@@ -55,6 +57,7 @@ impl Call {
             [b"frame", bytes] => Call::Frame {
                 bytes: hex::parse(bytes)?,
             },
+            [b"burst", ref words @ ..] => Call::Burst(Burst::parse(words)?),
             [b"send", room] => Call::Send {
                 room: decimal(room, ROOM_MOST)?,
             },

@@ -1,5 +1,6 @@
 //! The bench console, line for line: one call a line in, one line out.
 
+mod burst;
 mod call;
 mod parse;
 #[cfg(test)]
@@ -79,6 +80,7 @@ impl Console {
             Call::Line => format!("line {}", u32::from(self.bench.line())),
             Call::Grant { address } => format!("grant {}", self.bench.grant(lent, address)),
             Call::Frame { bytes } => format!("frame {}", self.bench.receive(lent, &bytes)),
+            Call::Burst(burst) => burst.make(&mut self.bench, lent),
             Call::Send { room } => {
                 let mut output = vec![0; room as usize];
                 let (number, sent) = self.bench.send(lent, &mut output);

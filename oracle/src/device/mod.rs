@@ -1,6 +1,7 @@
 //! The whole controller at the level of frames.
 
 mod access;
+mod burst;
 mod descriptor;
 mod engine;
 mod grant;
@@ -13,6 +14,7 @@ mod send;
 mod tests;
 mod window;
 
+pub use burst::Pair;
 pub use descriptor::{SIZE as DESCRIPTOR_SIZE, VALID};
 pub use engine::Engine;
 pub use send::StepRun;

@@ -62,8 +62,18 @@ impl Writer {
 
     /// A frame for the bench as it stands, most often one that passes.
     pub fn frame_bytes(&mut self) -> Vec<u8> {
-        let (_, high, low) = self.console.bench.filter();
-        let station = address::station(high, low);
+        let length = match self.random.below(8) {
+            0 => self.random.pick(&[63, 1_519]),
+            1 => self.random.pick(&[1_517, 1_518]),
+            2 => frames::length(&mut self.random),
+            3 => self.random.between(64, 1_518),
+            _ => self.random.between(64, 100),
+        };
+        self.frame_of(length)
+    }
+
+    /// A frame of about this length for the bench as it stands, most often one that passes.
+    pub fn frame_of(&mut self, length: usize) -> Vec<u8> {
         let destination = match self.random.below(3) {
             0 => Destination::Own,
             1 => Destination::Broadcast,
@@ -73,18 +83,30 @@ impl Writer {
             0 => self.random.pick(&Ending::ALL),
             _ => Ending::Right,
         };
-        let length = match self.random.below(8) {
-            0 => self.random.pick(&[63, 1_519]),
-            1 => self.random.pick(&[1_517, 1_518]),
-            2 => frames::length(&mut self.random),
-            3 => self.random.between(64, 1_518),
-            _ => self.random.between(64, 100),
-        };
-        let destination = destination.make(station, &mut self.random);
-        let message = frames::message(destination, length, &mut self.random);
-        let mut frame = ending.make(&message, &mut self.random);
+        let mut frame = self.frame_with(destination, ending, length);
         frame.truncate(FRAME_MOST);
         frame
+    }
+
+    /// A frame that passes, whatever the filter registers hold.
+    pub fn passing_frame(&mut self, length: usize) -> Vec<u8> {
+        let (control, high, low) = self.console.bench.filter();
+        let station = address::station(high, low);
+        let destination = match address::accepted(&station, control, high, low) {
+            true => self
+                .random
+                .pick(&[Destination::Own, Destination::Broadcast]),
+            false => Destination::Broadcast,
+        };
+        self.frame_with(destination, Ending::Right, length)
+    }
+
+    fn frame_with(&mut self, destination: Destination, ending: Ending, length: usize) -> Vec<u8> {
+        let (_, high, low) = self.console.bench.filter();
+        let station = address::station(high, low);
+        let destination = destination.make(station, &mut self.random);
+        let message = frames::message(destination, length, &mut self.random);
+        ending.make(&message, &mut self.random)
     }
 
     pub fn frame(&mut self) -> String {
@@ -156,7 +178,7 @@ impl Writer {
 
     /// Any call that makes no new bench.
     pub fn any(&mut self) {
-        match self.random.below(14) {
+        match self.random.below(16) {
             0 | 1 => {
                 self.frame();
             }
@@ -193,6 +215,9 @@ impl Writer {
             }
             11 => self.peek(),
             12 => self.register_write(),
+            13 | 14 => {
+                self.burst();
+            }
             _ => self.register_read(),
         }
     }

@@ -15,7 +15,7 @@ pub fn in_a_small_window(writer: &mut Writer) {
         descriptor(writer);
     }
     for _ in 0..writer.random.between(30, 90) {
-        match writer.random.below(8) {
+        match writer.random.below(9) {
             0 => descriptor(writer),
             1 => engine(writer),
             2 | 3 => {
@@ -27,6 +27,11 @@ pub fn in_a_small_window(writer: &mut Writer) {
                 writer.say("state");
             }
             5 => writer.observe(),
+            6 => {
+                writer.burst();
+                writer.say("check");
+                writer.say("state");
+            }
             _ => writer.any(),
         }
     }

@@ -64,7 +64,7 @@ fn ask(writer: &mut Writer, ring: &[Place]) {
 }
 
 /// Changes one word of a descriptor; some changes are harmless on purpose.
-fn damage(writer: &mut Writer, ring: &[Place], place: &mut Place) {
+pub fn damage(writer: &mut Writer, ring: &[Place], place: &mut Place) {
     let other = writer.random.pick(ring);
     let (base, end) = (writer.base(), writer.end());
     let size = place.count();
@@ -108,9 +108,13 @@ fn use_it(writer: &mut Writer, ring: &[Place]) {
     writer.say(format!("write 1c {:x}", ring[0].address));
     writer.say("write 400 80000000");
     writer.say("write 10 5");
-    for _ in 0..ring.len().min(4) {
-        writer.frame();
-        writer.say("state");
+    if writer.random.once_in(2) {
+        writer.burst_of(ring.len() + 1);
+    } else {
+        for _ in 0..ring.len().min(4) {
+            writer.frame();
+            writer.say("state");
+        }
     }
     writer.observe();
 }

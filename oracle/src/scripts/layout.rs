@@ -22,10 +22,13 @@ impl Place {
         self.control & 0xFFF
     }
 
-    pub fn write(&self, writer: &mut Writer) {
+    pub fn bytes(&self) -> Vec<u8> {
         let words = [self.control, self.start, self.next, self.status];
-        let bytes: Vec<u8> = words.iter().flat_map(|word| word.to_le_bytes()).collect();
-        writer.poke(self.address, &bytes);
+        words.iter().flat_map(|word| word.to_le_bytes()).collect()
+    }
+
+    pub fn write(&self, writer: &mut Writer) {
+        writer.poke(self.address, &self.bytes());
     }
 }
 

@@ -1,10 +1,11 @@
 //! Lines that are no calls, between calls.
 
+use super::malformed_bursts;
 use super::writer::Writer;
 use crate::random::Random;
 
 /// One good line of each form.
-const GOOD: [&str; 15] = [
+const GOOD: [&str; 17] = [
     "new 0 64",
     "lend 64",
     "read 8",
@@ -12,6 +13,8 @@ const GOOD: [&str; 15] = [
     "line",
     "grant 10",
     "frame 0011",
+    "burst 2 0011 0 1 2 0",
+    "burst 0 -",
     "send 1518",
     "run 3 4000",
     "show 10",
@@ -73,6 +76,9 @@ pub fn lines(writer: &mut Writer) {
 }
 
 fn line(random: &mut Random) -> Vec<u8> {
+    if random.once_in(6) {
+        return malformed_bursts::line(random).into_bytes();
+    }
     let good = random.pick(&GOOD).to_string();
     let mut words: Vec<&str> = good.split(' ').collect();
     match random.below(12) {
@@ -118,7 +124,7 @@ fn one_character_off(mut line: Vec<u8>, random: &mut Random) -> Vec<u8> {
 /// Lines about as long as a line may be.
 fn long(random: &mut Random) -> Vec<u8> {
     let length = random.pick(&[4_094, 4_095, 4_096, 4_097, 4_098, 9_000]);
-    let start = random.pick(&["frame ", "poke 0 ", "# ", "read ", "check", ""]);
+    let start = random.pick(&["frame ", "burst 0 ", "poke 0 ", "# ", "read ", "check", ""]);
     let mut line = start.as_bytes().to_vec();
     line.resize(length, b'0');
     line

@@ -1,11 +1,14 @@
 //! Console scripts for the comparison: made by hand, and random ones that know the bench's state.
 
+mod bursting;
+mod bursts;
 mod calls;
 mod chaos;
 mod damage;
 pub mod hand_made;
 mod layout;
 mod malformed;
+mod malformed_bursts;
 mod readings;
 mod receiving;
 mod register_access;
@@ -19,13 +22,17 @@ use crate::random::Random;
 use writer::Writer;
 
 /// The kinds of random script.
-const KINDS: [fn(&mut Writer); 11] = [
+const KINDS: [fn(&mut Writer); 15] = [
     receiving::on_a_sound_ring,
     receiving::on_a_sound_ring,
     receiving::on_a_sound_ring,
     sending::along_a_chain,
     sending::along_a_chain,
     sending::along_a_chain,
+    bursting::on_a_ring,
+    bursting::on_a_ring,
+    bursting::along_a_chain,
+    bursting::along_a_chain,
     damage::of_a_ring,
     chaos::in_a_small_window,
     readings::at_the_limits,

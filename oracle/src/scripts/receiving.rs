@@ -59,7 +59,7 @@ fn step(writer: &mut Writer, ring: &[Place], granted: &mut usize) {
         let place = writer.console.bench.receiver.place;
         start(writer, place);
     }
-    match writer.random.below(24) {
+    match writer.random.below(26) {
         0..=7 => {
             let place = writer.console.bench.receiver.place;
             writer.frame();
@@ -99,12 +99,13 @@ fn step(writer: &mut Writer, ring: &[Place], granted: &mut usize) {
         20 if writer.random.once_in(3) => restart(writer, ring),
         21 if writer.random.once_in(2) => end_of_chain(writer, ring),
         22 => writer.any(),
+        23 | 24 => writer.burst_and_look(),
         _ => writer.observe(),
     }
 }
 
 /// After a frame: the descriptor, the frame shown, and the memory's check.
-fn look_at(writer: &mut Writer, place: u32) {
+pub fn look_at(writer: &mut Writer, place: u32) {
     writer.say("state");
     if writer.random.once_in(2) {
         writer.say(format!("peek {place:x} 16"));

@@ -6,7 +6,7 @@ use native.Mathlib.Omega.{arith}
 use borrow.Author.Needs.{needs}
 use lib.ListN.{length}
 use Rattle.speed.specs.Rounds.{receiveRounds}
-use Rattle.speed.proofs.Laws.{receive-turn, receive-end}
+use Rattle.speed.proofs.Laws.{rounds-turn, rounds-end}
 use Rattle.speed.proofs.speed_receive.Statement.{statement}
 use Rattle.speed.proofs.speed_receive.Tie as tie
 
@@ -44,9 +44,13 @@ loop-less c = omega arith
 loop-again : tie.Need-loop-again Inv-loop μ-loop
 loop-again c =
     let l = c .before .before .before .before .before .before .before .loop in
-    let r = c .before .before .before .before .receive-round in
-    let t = receive-turn (l .left) (l .taken) (c .passed .result) _ _ _ _ _ (omega arith) (r .ensures) (c .passed .ensures .0) in
-    (omega arith, (r .kept .1 .0 ∙ l .inv .1 .0, t ∙ l .inv .1 .1))
+    let r = c .before .before .before .before .receive-round in (
+      omega arith,
+      (
+        r .kept .1 .0 ∙ l .inv .1 .0,
+        rounds-turn _ (l .left) (l .taken) (c .passed .result) _ _ _ _ (omega arith) (r .ensures) (c .passed .ensures .0) ∙ l .inv .1 .1,
+      ),
+    )
 
 same-length : tie.Need-same-length Inv-loop μ-loop
 same-length c = search needs
@@ -54,7 +58,7 @@ same-length c = search needs
 returns : tie.Need-returns Inv-loop μ-loop
 returns c =
     let l = c .before .loop in
-    sym (receive-end (l .left) _ _ _ _ (omega arith)) ∙ rw (c .before .before .bench .ensures) at (l .inv .1 .1)
+    sym (rounds-end _ (l .left) _ _ _ (omega arith)) ∙ rw (c .before .before .bench .ensures) at (l .inv .1 .1)
 
 pub speed-receive-spec : {M : Type 1} → statement M
 speed-receive-spec =

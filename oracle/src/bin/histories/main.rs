@@ -1,13 +1,19 @@
 //! Holds the claims about histories against the oracle's own device, on random histories: a second
 //! opinion on the claims themselves.
 
+mod arrivals;
+mod burst;
+mod bursts;
+mod claims;
 mod history;
+mod sequence;
 mod start;
+mod step;
 mod steps;
 
-use history::{History, Mark};
-use oracle::address;
-use oracle::frames::{self, Destination, Ending};
+use arrivals::Arrival;
+use claims::Mark;
+use history::History;
 use oracle::random::Random;
 use oracle::tally::Tally;
 use start::Start;
@@ -17,10 +23,21 @@ use std::process::ExitCode;
 const PAIRS: u64 = 2_500;
 
 /// Kinds without which the claims would have said nothing.
-const EXPECTED: [&str; 10] = [
+const EXPECTED: [&str; 21] = [
     "frame delivered",
     "frame lost",
     "frame turned away",
+    "frame in a burst delivered",
+    "frame in a burst lost",
+    "frame in a burst turned away",
+    "burst",
+    "burst of no pairs",
+    "burst of 64 pairs",
+    "burst in which the grants run out",
+    "burst refused: over 64 pairs",
+    "burst refused: another answer list",
+    "pair outside the store",
+    "history made again by single receives",
     "grant",
     "grant refused in ring order",
     "grant refused at any address",
@@ -53,62 +70,64 @@ fn main() -> ExitCode {
 fn pair(seed: u64, tally: &mut Tally) -> Result<(), String> {
     let mut random = Random::new(seed);
     let start = Start::new(&mut random)?;
-    let length = random.between(1, 40);
-    let frames: Vec<Vec<u8>> = (0..length).map(|_| frame(&start, &mut random)).collect();
-    let first = single(&start, &frames, &[], &mut random, tally)?;
-    // Half of the second histories keep up with the first one's grants.
+    let frames = sequence::sequence(&start, &mut random);
+    let mut arrivals = arrivals::cut(frames.len(), &mut random);
+    let first = single(&start, &frames, &arrivals, &[], &mut random, tally)?;
+    // Half of the second histories keep up with the first one's grants, and half meet the frames by
+    // other calls.
     let pace: &[Mark] = if random.once_in(2) { &first } else { &[] };
-    let second = single(&start, &frames, pace, &mut random, tally)?;
+    if random.once_in(2) {
+        arrivals = arrivals::cut(frames.len(), &mut random);
+    }
+    let second = single(&start, &frames, &arrivals, pace, &mut random, tally)?;
     compare(&first, &second, tally)
 }
 
-/// A frame for the start's filter registers, most often one that passes.
-fn frame(start: &Start, random: &mut Random) -> Vec<u8> {
-    let (_, high, low) = start.bench.filter();
-    let destination = match random.below(3) {
-        0 => random.pick(&Destination::ALL),
-        1 => Destination::Broadcast,
-        _ => Destination::Own,
-    };
-    let ending = match random.below(8) {
-        0 => random.pick(&Ending::ALL),
-        _ => Ending::Right,
-    };
-    let length = match random.below(3) {
-        0 => frames::length(random),
-        1 => random.pick(&[64, 1_518]),
-        _ => random.between(64, 300),
-    };
-    let destination = destination.make(address::station(high, low), random);
-    let message = frames::message(destination, length, random);
-    ending.make(&message, random)
-}
-
-/// One history. Before each frame it makes at least as many grants as `pace` had then.
+/// One history. Before each call it makes at least as many grants as `pace` had at its last frame.
 fn single(
     start: &Start,
     frames: &[Vec<u8>],
+    arrivals: &[Arrival],
     pace: &[Mark],
     random: &mut Random,
     tally: &mut Tally,
 ) -> Result<Vec<Mark>, String> {
     let mut history = History::new(start.clone(), tally);
     let eagerness = random.below(10);
-    for (place, frame) in frames.iter().enumerate() {
+    let mut left = frames;
+    for arrival in arrivals {
+        let (coming, later) = left.split_at(arrival.frames());
         history.other_steps(random, eagerness);
-        let wanted = pace.get(place).map_or(0, |mark| mark.grants);
+        history.burst_of_none(coming, random)?;
+        let last = frames.len() - later.len() - 1;
+        let wanted = pace.get(last).map_or(0, |mark| mark.grants);
         for _ in history.grants..wanted {
             history.grant();
         }
-        history.receive(frame)?;
+        match arrival {
+            Arrival::Single => history.receive(&coming[0])?,
+            Arrival::Burst(frames) => {
+                // A ring's grants, or some of them, for many frames at once.
+                if random.once_in(2) {
+                    let more = random.below(frames.min(&start.ring.len()) + 1);
+                    (0..more).for_each(|_| history.grant());
+                }
+                history.burst_of(coming, random)?;
+            }
+        }
+        left = later;
     }
     history.other_steps(random, eagerness);
+    history.equals_single_receives()?;
     Ok(history.marks)
 }
 
-/// A history that never had fewer grants before a frame never delivered fewer frames.
+/// A history that never had fewer grants before a receive never delivered fewer frames.
 fn compare(first: &[Mark], second: &[Mark], tally: &mut Tally) -> Result<(), String> {
     let pairs = || first.iter().zip(second);
+    if first.len() != second.len() {
+        return Err("one sequence of frames, but not as many receives".to_string());
+    }
     if pairs().any(|(first, second)| second.grants < first.grants) {
         tally.met("pair not to be compared");
         return Ok(());

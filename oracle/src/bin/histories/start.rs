@@ -4,7 +4,7 @@ use oracle::device::{Bench, VALID};
 use oracle::random::Random;
 use oracle::scripts;
 
-#[derive(Clone)]
+#[derive(Clone, PartialEq, Eq)]
 pub struct Start {
     pub bench: Bench,
     pub memory: Vec<u8>,

@@ -1,6 +1,7 @@
 //! The steps of a history that are neither frames nor grants in ring order.
 
 use crate::history::History;
+use crate::step::Step;
 use oracle::device::DESCRIPTOR_SIZE;
 use oracle::random::Random;
 
@@ -11,36 +12,41 @@ const OFFSETS: [u32; 12] = [
     0x00, 0x04, 0x08, 0x10, 0x1C, 0x30, 0x3C, 0x400, 0x404, 0x408, 0x40C, 0x05,
 ];
 
+/// Outputs too short for a send, and others.
+const ROOMS: [usize; 4] = [0, 1_517, 1_518, 4_000];
+
 impl History<'_> {
     pub fn other_step(&mut self, random: &mut Random) {
         match random.below(8) {
             0 => self.refused_grant(random),
             1 => self.register_write(random),
-            2 => {
-                self.now.bench.read(random.pick(&OFFSETS));
-            }
-            3 => {
-                let mut output = vec![0; random.pick(&[0, 1_517, 1_518, 4_000])];
-                self.now.bench.send(&mut self.now.memory, &mut output);
-            }
-            4 => {
-                let mut output = vec![0; random.pick(&[0, 1_517, 1_518, 4_000])];
-                let allowance = random.pick(&[0, 1, 4_096, 4_097]);
-                let memory = &mut self.now.memory;
-                self.now.bench.run(memory, &mut output, allowance);
-            }
+            2 => self.call(Step::Read {
+                offset: random.pick(&OFFSETS),
+            }),
+            3 => self.call(Step::Send {
+                room: random.pick(&ROOMS),
+            }),
+            4 => self.call(Step::Run {
+                room: random.pick(&ROOMS),
+                allowance: random.pick(&[0, 1, 4_096, 4_097]),
+            }),
             5 => {
                 let address = self.any_address(random);
-                self.now.bench.show(&self.now.memory, address);
+                self.call(Step::Show(address));
             }
             6 => {
                 let count = random.below(34) as u32;
-                let address = self.any_address(random);
-                self.now.bench.ring(&self.now.memory, count, address);
+                let first = self.any_address(random);
+                self.call(Step::Ring { count, first });
             }
             _ => self.firmware_write(random),
         }
         self.tally.met("other step");
+    }
+
+    /// A call of which nothing is claimed.
+    fn call(&mut self, step: Step) {
+        self.make(step);
     }
 
     fn any_address(&self, random: &mut Random) -> u32 {
@@ -56,7 +62,7 @@ impl History<'_> {
         let address = self.any_address(random);
         let mut trial = self.now.memory.clone();
         if self.now.bench.grant(&mut trial, address) != 0 {
-            self.now.bench.grant(&mut self.now.memory, address);
+            self.make(Step::Grant(address));
             self.tally.met("grant refused at any address");
         }
     }
@@ -71,7 +77,7 @@ impl History<'_> {
         } else if !INTERRUPT.contains(&offset) {
             return;
         }
-        self.now.bench.write(offset, value);
+        self.make(Step::Write { offset, value });
     }
 
     /// Any bytes into the window outside the ring's descriptors, buffers included.
@@ -87,7 +93,7 @@ impl History<'_> {
         };
         if !self.now.ring.iter().any(over) {
             let bytes = random.bytes(length);
-            self.now.memory[place..place + length].copy_from_slice(&bytes);
+            self.make(Step::Firmware { place, bytes });
             self.tally.met("firmware write");
         }
     }

@@ -1,5 +1,6 @@
 //! Examples worked out by hand from the rules.
 
+mod bursts;
 mod grants;
 mod marked;
 mod readings;

@@ -1,5 +1,7 @@
 //! Scripts for the marked cases and for the errors that look right.
 
+mod bursts;
+
 use crate::compare::Script;
 use crate::{check, hex};
 
@@ -31,6 +33,10 @@ pub fn scripts() -> Vec<Script> {
         loss_keeps_the_place(),
         sends(),
         longest_lines(),
+        bursts::bursts(),
+        bursts::many(),
+        bursts::foreign_descriptor(),
+        bursts::before_any_new(),
     ];
     texts
         .iter()

@@ -1,5 +1,7 @@
 //! The console's own rules; what the calls do is tested with the device.
 
+mod bursts;
+
 use super::*;
 
 fn written(input: &str) -> Vec<String> {

@@ -1,0 +1,114 @@
+-- Demand 3 speaks of bursts: on a ring of two with two grants a burst of three frames, and of one pair outside the store, delivers,
+-- delivers, answers 16 and loses; with an answer list too short it is refused, and brings no frame. Assumes nothing.
+use Prim.Native.Nat.{ℕ}
+use mathlib.Core.Path.{_≡_, refl}
+use mathlib.Core.Bool.{Bool}
+use mathlib.Core.List.{List, [], _∷_}
+use native.Mathlib.Omega.{arith}
+use lib.ListN.{length}
+use Rattle.memory.specs.Memory.{word, wordBytes, store}
+use Rattle.window.specs.Window.{lent, inWindow, holdsDescriptor}
+use Rattle.address.specs.Address.{apart, aligned, placeOf}
+use Rattle.descriptor.specs.Descriptor.{count, nextEnabled, start, nextWord, next}
+use Rattle.packet_status.specs.PacketStatus.{packetStatus, granted, withPacketStatus}
+use Rattle.chain.specs.Buffer.{bytesFault, bufferFault}
+use Rattle.fcs.specs.Polynomial.{generator, remainder, checkBits}
+use Rattle.fcs.specs.CheckSequence.{checkNumber, checkSequence, checkRight}
+use Rattle.frame.specs.Length.{lengthAllowed}
+use Rattle.frame.specs.Address.{accepts}
+use Rattle.frame.specs.Frame.{frameNumber}
+use Rattle.receiving.specs.Receiving.{rxRefused, rxAdvanced, receiveNumber, delivered}
+use Rattle.engine.specs.Engine.{startWritten}
+use Rattle.enet.specs.Frames.{grant, receive}
+use Rattle.chain.specs.Chain.{chainNumber}
+use Rattle.granting.specs.Granting as plain
+use Rattle.granting.specs.Granting.{grantNumber}
+use Rattle.receiving.specs.Receive as receiving
+use Rattle.receiving.specs.Receive.{receiveAt}
+use Rattle.pair.specs.Pair.{passes, bytesOf, received}
+use Rattle.burst.specs.Burst.{receives, refuses, burst, pairsOf, uneven, burstOf}
+use Rattle.burst.specs.Taken.{taken, framesInside, answersInside}
+use Rattle.calls.specs.Calls.{Bench, Call, grantCall, burstCall, call}
+use Rattle.links.specs.Links.{follow}
+use Rattle.history.specs.Steps.{Step, publicCall, framesOf, Progress, begin, afterSteps}
+use Rattle.history.specs.Start.{inOrder, Permitted, Obeys}
+use Rattle.history.specs.Claim.{Lost, LiesWhole, deliveredBy, Claim}
+use Rattle.history.proofs.Theorem.{demand3}
+use Rattle.examples.proofs.Examples.{first, ring, frame, granting, ring-of-two}
+
+-- ---- the list: both descriptors are granted, and the burst comes
+
+-- a store of one frame, and four pairs of it: all of it three times, and before the last one byte past its end
+abbrev burstOfFour : List ℕ → Call
+burstOfFour answers = burstCall frame (0 ∷ 0 ∷ 1 ∷ 0 ∷ []) (64 ∷ 64 ∷ 64 ∷ 64 ∷ []) answers
+
+abbrev granted-both : List Step
+granted-both = publicCall (grantCall first) ∷ publicCall (grantCall (inOrder (ring 2) first 1)) ∷ []
+
+abbrev steps : List Step
+steps =
+    publicCall (grantCall first)
+    ∷ publicCall (grantCall (inOrder (ring 2) first 1))
+    ∷ publicCall (burstOfFour (99 ∷ 99 ∷ 99 ∷ 99 ∷ []))
+    ∷ []
+
+-- the bench that the burst meets, and the one that it leaves
+abbrev before : Progress
+before = afterSteps (begin (ring 2)) granted-both
+
+abbrev after : Bench
+after = call (before .bench) (burstOfFour (99 ∷ 99 ∷ 99 ∷ 99 ∷ [])) .bench
+
+-- what demand 3 asks of the list, what the burst answers, and what demand 3 says of its frames
+pub record BurstExample : Type 0 where
+  pub obeys : Obeys (ring 2) 2 first (begin (ring 2)) steps
+  pub list : call (before .bench) (burstOfFour (99 ∷ 99 ∷ 99 ∷ 99 ∷ [])) .list ≡ 0 ∷ 0 ∷ 16 ∷ 8 ∷ []
+  pub brought : framesOf (publicCall (burstOfFour (99 ∷ 99 ∷ 99 ∷ 99 ∷ []))) ≡ frame ∷ frame ∷ frame ∷ []
+  pub counts : deliveredBy (begin (ring 2)) steps ≡ 1 ∷ 2 ∷ 2 ∷ []
+  pub lost : Lost before (publicCall (burstOfFour (99 ∷ 99 ∷ 99 ∷ 99 ∷ []))) 2
+  pub claim : Claim (ring 2) 2 first steps
+  -- both delivered frames lie whole when the burst ends
+  pub firstWhole : LiesWhole after first frame
+  pub secondWhole : LiesWhole after (inOrder (ring 2) first 1) frame
+  -- refused
+  pub refused : call (before .bench) (burstOfFour (99 ∷ 99 ∷ 99 ∷ [])) .number ≡ 16
+  pub unanswered : call (before .bench) (burstOfFour (99 ∷ 99 ∷ 99 ∷ [])) .list ≡ 99 ∷ 99 ∷ 99 ∷ []
+  pub unchanged : call (before .bench) (burstOfFour (99 ∷ 99 ∷ 99 ∷ [])) .bench ≡ before .bench
+  pub none : framesOf (publicCall (burstOfFour (99 ∷ 99 ∷ 99 ∷ []))) ≡ []
+
+all-permitted : Obeys (ring 2) 2 first (begin (ring 2)) steps
+unfolding
+    follow placeOf startWritten grant plain.grant grantNumber holdsDescriptor lent aligned inWindow granted packetStatus withPacketStatus word wordBytes store
+all-permitted = (
+  granting (ring 2) 2 first _ first refl,
+  (
+    granting (ring 2) 2 first _ _ refl,
+    (record { grants = tt; bytes = λ i w. absurd w; registers = tt }, tt),
+  ),
+)
+
+pub a-burst : BurstExample
+unfolding
+    lent aligned inWindow apart placeOf follow
+    count nextEnabled start nextWord next packetStatus granted withPacketStatus bufferFault bytesFault word wordBytes store
+    frame frameNumber lengthAllowed accepts checkRight checkSequence checkNumber checkBits remainder generator
+    receive receiving.receive receiveAt receiveNumber chainNumber rxRefused delivered rxAdvanced
+    grant plain.grant grantNumber holdsDescriptor startWritten afterSteps deliveredBy
+    passes bytesOf received receives refuses burst pairsOf uneven burstOf taken framesInside answersInside
+a-burst =
+    let claim = demand3 (ring 2) 2 first (ring-of-two .starts) steps all-permitted in
+    let met = claim .each granted-both [] (publicCall (burstOfFour (99 ∷ 99 ∷ 99 ∷ 99 ∷ []))) refl in
+    record {
+      obeys = all-permitted;
+      list = refl;
+      brought = refl;
+      counts = refl;
+      lost = refl;
+      claim = claim;
+      firstWhole = met 0 (omega arith) .nth refl .1;
+      secondWhole = met 1 (omega arith) .nth refl .1;
+      refused = refl;
+      unanswered = refl;
+      unchanged = refl;
+      none = refl;
+    }

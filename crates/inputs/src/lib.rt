@@ -1,0 +1,1 @@
+// A burst as its single receives: specs/, proved in proofs/. No code.
