@@ -1,12 +1,11 @@
 -- Laws of the pairs in a line: the turns and the ways out of their functions. Assumes nothing.
-use mathlib.Core.Path.{_≡_, refl, sym}
+use mathlib.Core.Path.{_≡_}
 use mathlib.Core.Bool.{Bool, true, false, not}
-use mathlib.Core.List.{List, [], _∷_}
-use Prim.Native.Nat.{ℕ, zero, suc, _+_, _-_, _≤_}
+use mathlib.Core.List.{List}
+use Prim.Native.Nat.{ℕ, suc, _+_, _-_}
 use native.Mathlib.Numerals.{add-one}
 use native.Mathlib.Omega.{arith}
-use lib.ListN.{length, set}
-use Rattle.rules.specs.Choice.{if_then_else_}
+use lib.ListN.{set}
 use Rattle.rules.proofs.Choices.{said-not}
 use Rattle.memory.specs.Memory.{store}
 use Rattle.words.specs.Words.{spaced, first, rest}
@@ -26,33 +25,26 @@ pub pairs-none : (left n : ℕ) (s : List ℕ) → left ≡ 0 → Wrong ≡ pair
 unfolding pairsFrom
 pairs-none left n s z = rw z
 
--- one pair more, if any may come
-some : (left n : ℕ) (s : List ℕ) → (left ≡ 0 → ⊥)
-    → pairsFrom left n s
-    ≡ (if not (right (firstNumber s)) then Wrong else
-    if not (right (firstNumber (rest s))) then Wrong else
-    if not (spaced (rest s)) then Is (n + 1) else
-    pairsFrom (left - 1) (n + 1) (rest (rest s)))
-unfolding pairsFrom
-some zero n s z = absurd (z refl)
-some (suc left) n s z =
-    let p : suc left - 1 ≡ left = omega arith in
-    rw p
+one-less : (n : ℕ) → (n ≡ 0 → ⊥) → n ≡ suc (n - 1)
+one-less n z = omega arith
 
 -- with the START's number in hand, then the LENGTH's, and whether more follows
 module _ (left n : ℕ) (s : List ℕ) (z : left ≡ 0 → ⊥) (x : Number) (e : x ≡ firstNumber s) (r : Bool) (is : r ≡ right x) where
   pub pairs-start : not r ≡ true → Wrong ≡ pairsFrom left n s
-  pairs-start t = rw (some left n s z, ← e, said-not (right x) r true is t)
+  unfolding pairsFrom
+  pairs-start t = rw (one-less left z, ← e, said-not (right x) r true is t)
 
   module _ (t : not r ≡ false) (s₂ : List ℕ) (cut : s₂ ≡ rest s) (x₂ : Number) (e₂ : x₂ ≡ firstNumber s₂) (r₂ : Bool) (is₂ : r₂ ≡ right x₂) where
     pub pairs-length : not r₂ ≡ true → Wrong ≡ pairsFrom left n s
-    pairs-length t₂ = rw (some left n s z, ← e, said-not (right x) r false is t, ← cut, ← e₂, said-not (right x₂) r₂ true is₂ t₂)
+    unfolding pairsFrom
+    pairs-length t₂ = rw (one-less left z, ← e, said-not (right x) r false is t, ← cut, ← e₂, said-not (right x₂) r₂ true is₂ t₂)
 
     module _ (t₂ : not r₂ ≡ false) (q : Bool) (is₃ : q ≡ spaced s₂) where
       pub pairs-last : not q ≡ true → Is (n + 1) ≡ pairsFrom left n s
+      unfolding pairsFrom
       pairs-last t₃ =
           rw (
-            some left n s z,
+            one-less left z,
             ← e,
             said-not (right x) r false is t,
             ← cut,
@@ -62,9 +54,10 @@ module _ (left n : ℕ) (s : List ℕ) (z : left ≡ 0 → ⊥) (x : Number) (e 
           )
 
       pub pairs-more : (s₃ : List ℕ) (y : Number) → not q ≡ false → s₃ ≡ rest s₂ → y ≡ pairsFrom (left - 1) (n + 1) s₃ → y ≡ pairsFrom left n s
+      unfolding pairsFrom
       pairs-more s₃ y t₃ cut₂ h =
           rw (
-            some left n s z,
+            one-less left z,
             ← e,
             said-not (right x) r false is t,
             ← cut,
@@ -100,7 +93,4 @@ numbers-none out s n at z = rw z
 pub numbers-more : (out out′ s s₂ s₃ : List ℕ) (n at v : ℕ) (x : Number) → (n ≡ 0 → ⊥) → x ≡ firstNumber s → v ≡ value x → s₂ ≡ rest s → s₃ ≡ rest s₂
     → out′ ≡ store (set out at v) (at + 1) (everyOther (n - 1) s₃) → out′ ≡ store out at (everyOther n s)
 unfolding store everyOther
-numbers-more out out′ s s₂ s₃ zero at v x z e f cut cut₂ h = absurd (z refl)
-numbers-more out out′ s s₂ s₃ (suc n) at v x z e f cut cut₂ h =
-    let p : suc n - 1 ≡ n = omega arith in
-    rw (← e, ← f, ← cut, ← cut₂) (rw (p, add-one) at h)
+numbers-more out out′ s s₂ s₃ n at v x z e f cut cut₂ h = rw (one-less n z, ← e, ← f, ← cut, ← cut₂) (rw add-one at h)

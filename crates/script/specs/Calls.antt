@@ -81,7 +81,7 @@ withTwo name a b =
     if is name (characters "peek") then given Peek (hexadecimal a) (decimal b 65_536) else
     noCall
 
--- of three or more: only `burst` takes more, the pairs behind its BYTES. Of it "all ROOM numbers of the answer list, at most 66"
+-- of three or more: only `burst` takes more, the pairs behind its BYTES, and its ROOM is "at most 66"
 unfoldable pub withMore : List ℕ → List ℕ → List ℕ → Call
 withMore name a words =
     if is name (characters "burst") then given Burst (decimal a 66) (pairsBehind words) else
