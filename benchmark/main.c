@@ -1,6 +1,7 @@
 /*
  * The benchmark: frames a second through receive and through single send, of
- * the proved library and of the plain C model, side by side in one run.
+ * the proved library and of the plain C model, side by side in one run; then
+ * frames a second through bursts of 64 beside 64 single receives, both proved.
  *
  * First all contestants get the same inputs, allowed and refused ones, and must
  * leave the same answers, memory and output: a model that does less would be no
@@ -233,9 +234,100 @@ static double measure(bool in, size_t length)
     return best[0] / best[1];
 }
 
+/* ---- bursts of 64 frames beside 64 single receives */
+
+#define PAIRS 64
+#define BURSTS_A_TURN 8
+
+/* A ring of 64 granted descriptors that share one buffer behind them: the
+ * window is too small for 64 buffers of 1,518 bytes. */
+static void prepare_ring(size_t length)
+{
+    for (uint32_t k = 0; k < PAIRS; k++) {
+        store(memory + 16 * k, LINKED | (uint32_t)length);
+        store(memory + 16 * k + 4, 16 * PAIRS);
+        store(memory + 16 * k + 8, 16 * ((k + 1) % PAIRS));
+        store(memory + 16 * k + 12, UINT32_C(1) << 16);
+    }
+}
+
+static uint32_t starts[PAIRS], lengths[PAIRS], answers[PAIRS];
+
+/* How many frames a burst of the frame, 64 times, delivers. */
+static uint32_t burst(size_t length)
+{
+    uint32_t taken = 0;
+
+    if (speed_burst(memory, WINDOW, frame, length, starts, PAIRS, lengths, PAIRS, answers,
+                    PAIRS) != 0)
+        return 0;
+    for (size_t k = 0; k < PAIRS; k++)
+        taken += answers[k] == 0;
+    return taken;
+}
+
+/* Both deliver all 64 frames and leave the same memory. */
+static bool same_burst(size_t length)
+{
+    static uint8_t left[WINDOW];
+    uint32_t one_call, singles;
+
+    make_frame(length, 1);
+    fill(memory, sizeof memory, 1);
+    prepare_ring(length);
+    for (size_t k = 0; k < PAIRS; k++)
+        lengths[k] = (uint32_t)length;
+    one_call = burst(length);
+    memcpy(left, memory, WINDOW);
+    fill(memory, sizeof memory, 1);
+    prepare_ring(length);
+    singles = speed_singles(memory, WINDOW, frame, length, PAIRS);
+    if (one_call == PAIRS && singles == PAIRS && memcmp(left, memory, WINDOW) == 0)
+        return true;
+    printf("a burst differs from single receives: %zu bytes, %u and %u taken\n", length,
+           (unsigned)one_call, (unsigned)singles);
+    return false;
+}
+
+/* Frames a second of one turn; the grants are not timed. */
+static double burst_turn(bool in_one_call, size_t length)
+{
+    double spent = 0;
+
+    for (int k = 0; k < BURSTS_A_TURN; k++) {
+        double from;
+        prepare_ring(length);
+        from = seconds();
+        if (in_one_call)
+            burst(length);
+        else
+            speed_singles(memory, WINDOW, frame, length, PAIRS);
+        spent += seconds() - from;
+    }
+    return BURSTS_A_TURN * PAIRS / spent;
+}
+
+/* One line of the table; returns the burst's rate over that of single receives. */
+static double measure_burst(size_t length)
+{
+    double in_one_call = 0, singles = 0;
+
+    make_frame(length, 1);
+    for (size_t k = 0; k < PAIRS; k++)
+        lengths[k] = (uint32_t)length;
+    for (int t = 0; t < TURNS; t++) {
+        keep_best(&in_one_call, burst_turn(true, length));
+        keep_best(&singles, burst_turn(false, length));
+    }
+    printf("%-8s %6zu %14.0f %14.0f %11.2f\n", "burst", length, in_one_call, singles,
+           in_one_call / singles);
+    return in_one_call / singles;
+}
+
 int main(void)
 {
-    static const size_t lengths[] = {64, 512, 1518};
+    static const size_t burst_lengths[] = {64, 1518};
+    static const size_t frame_lengths[] = {64, 512, 1518};
     bool same = true;
     double least = 0;
 
@@ -243,6 +335,8 @@ int main(void)
         same = same_in(&frames_in[i]) && same;
     for (size_t i = 0; i < sizeof frames_out / sizeof frames_out[0]; i++)
         same = same_out(&frames_out[i]) && same;
+    for (size_t i = 0; i < sizeof burst_lengths / sizeof burst_lengths[0]; i++)
+        same = same_burst(burst_lengths[i]) && same;
     if (!same)
         return 1;
     printf("all leave the same answers, memory and output\n\n"
@@ -256,8 +350,8 @@ int main(void)
         printf(" %11s", "proved/(b)");
     printf(" %14s\n", "65,536/4,096");
     for (int in = 1; in >= 0; in--) {
-        for (size_t i = 0; i < sizeof lengths / sizeof lengths[0]; i++) {
-            double ratio = measure(in, lengths[i]);
+        for (size_t i = 0; i < sizeof frame_lengths / sizeof frame_lengths[0]; i++) {
+            double ratio = measure(in, frame_lengths[i]);
             if (least == 0 || ratio < least)
                 least = ratio;
         }
@@ -265,5 +359,14 @@ int main(void)
     printf("\nleast proved/(a): %.2f; the goal is 0.90\n"
            "65,536/4,096: the proved code's frames a second by the size of the window\n",
            least);
+    printf("\nframes a second in bursts of 64 and by 64 single receives, both proved\n"
+           "%-8s %6s %14s %14s %11s\n", "call", "bytes", "in one call", "single", "ratio");
+    least = 0;
+    for (size_t i = 0; i < sizeof burst_lengths / sizeof burst_lengths[0]; i++) {
+        double ratio = measure_burst(burst_lengths[i]);
+        if (least == 0 || ratio < least)
+            least = ratio;
+    }
+    printf("\nleast ratio: %.2f; the goal is 1.00\n", least);
     return 0;
 }

@@ -33,6 +33,17 @@ struct contestant {
 receive_rounds speed_receive;
 send_rounds speed_send;
 
+/* The proved library alone. The frame `rounds` times with no grant in between;
+ * returns how often it was taken. */
+receive_rounds speed_singles;
+
+/* One burst of the pairs of two lists; returns its number. */
+uint32_t speed_burst(uint8_t *memory, size_t memory_length,
+                     const uint8_t *store, size_t store_length,
+                     const uint32_t *starts, size_t starts_length,
+                     const uint32_t *lengths, size_t lengths_length,
+                     uint32_t *answers, size_t answers_length);
+
 /* model.c, compiled with the check bit by bit and with that of zlib */
 extern const struct contestant model_bitwise;
 extern const struct contestant model_zlib;

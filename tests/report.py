@@ -1,10 +1,11 @@
 #!/usr/bin/env python3
 """Tests the report on short scripts with answers written by hand, and on the sample day as the console answers it.
 
-What the sample day has to come to is worked out by hand from document 01, not taken from the console.
+What the sample day has to come to is worked out by hand from documents 01 and 02, not taken from the console.
 
 Usage: report.py PROGRAM   (the bench console)
 """
+import dataclasses
 import os
 import pathlib
 import re
@@ -17,23 +18,30 @@ import zlib
 ROOT = pathlib.Path(__file__).resolve().parent.parent
 REPORT, DAY = ROOT / 'tools' / 'report', ROOT / 'examples' / 'day.txt'
 STATION, BROADCAST = bytes.fromhex('020000000001'), b'\xff' * 6
+SVG = '{http://www.w3.org/2000/svg}'
 
 # ---- the sample day, by hand
 
 # answers to the grants and to the frames, in the script's order
-GRANTS = [0, 0, 0, 14, 13, 0, 0, 0, 0, 0]
+GRANTS = [0, 0, 0, 14, 13, 0, 0, 0, 0, 0, 0, 0]
 FRAMES = [8, 0, 0, 6, 6, 5, 4, 0, 0, 0, 0, 0, 8, 0, 11]
-# the ring's fill: three grants, three frames, four grants, four frames, one grant, one frame
-FILL = [0, 1, 2, 3, 2, 1, 0, 1, 2, 3, 4, 3, 2, 1, 0, 1, 0]
+# the burst's number, then the answer to each of its pairs, and what the picture shows of them
+BURST = [0, 0, 0, 16, 8]
+BURST_MARKS = ['delivered', 'delivered', 'refused', 'lost']
+# the ring's fill: three grants, three frames, four grants, four frames, one grant, one frame, two grants, and two frames
+# of the burst
+FILL = [0, 1, 2, 3, 2, 1, 0, 1, 2, 3, 4, 3, 2, 1, 0, 1, 0, 1, 2, 1, 0]
 # the broadcast has 14 + 77 + 4 bytes, each result 64; the sends have 64, 64 and 66 + 4
 TOTALS = [
-    'calls 96',
-    'grants made 8',
+    'calls 105',
+    'grants made 10',
     'grants refused 2',
     '13 1 descriptor not at a multiple of 4 or not all in the window',
     '14 1 descriptor already granted',
-    'frames delivered 8 543 bytes',
-    'frames lost 2 128 bytes',
+    'bursts made 1 4 pairs, 1 outside the store',
+    'bursts refused 0',
+    'frames delivered 10 671 bytes',
+    'frames lost 3 192 bytes',
     'frames refused 5',
     '4 1 frame under 64 or over 1,518 bytes',
     '5 1 frame check sequence wrong',
@@ -41,8 +49,10 @@ TOTALS = [
     "11 1 lent memory not of the window's length",
     'frames sent 3 198 bytes',
 ]
-MARKS = {'grants': 8, 'delivered': 8, 'lost': 2, 'refused': 5, 'sent': 2}
-SHOWN = ['1042;41,7', '1043;0,185', '1045;41,700', '1044;38,25', '1046;40,05', '1047;39,9', '1048;42,125']
+# five frames are refused, and one pair is outside
+MARKS = {'grants': 10, 'delivered': 10, 'lost': 3, 'refused': 6, 'sent': 2}
+SHOWN = ['1042;41,7', '1043;0,185', '1045;41,700', '1044;38,25', '1046;40,05', '1047;39,9', '1048;42,125', '2017;37,6',
+         '3108;40,25']
 
 # ---- short scripts: each line with its answer, and what the report has to say of it
 
@@ -102,6 +112,40 @@ LINES = [
     ('state', 'state 1 00000010 0 00000000', 'receiving runs, place 00000010; sending is stopped, place 00000000'),
 ]
 
+# ---- bursts: a script with its answers, and all that the report has to say of it before the totals
+
+STORE = f'{RESULT}00000000' * 2
+NAMED = 'to 02-00-00-00-00-01, 88B5 "1042;41,7"'
+BURSTS = [
+    ('grant 100', 'grant 0', ['1 grant 100 -> 0 done: descriptor at 00000100 handed to the DMA']),
+    ('grant 110', 'grant 0', ['2 grant 110 -> 0 done: descriptor at 00000110 handed to the DMA']),
+    # the second pair ends where the store ends, the third one byte behind; no bytes at the end are a frame, behind it none
+    (f'burst 7 {STORE} 0 64 64 64 65 64 0 63 64 64 128 0 129 0', 'burst 0 0 0 16 4 8 4 16', [
+        '3 burst (7 pairs, a store of 128 bytes, room for 7 answers) -> 0 done: 2 delivered, 1 lost, 2 refused, 2 outside',
+        f'pair 1: frame (64 bytes, {NAMED}) -> 0 delivered',
+        f'pair 2: frame (64 bytes, {NAMED}) -> 0 delivered',
+        "pair 3: 64 bytes from 65 on -> 16 outside: pair passes the store's end",
+        f'pair 4: frame (63 bytes, {NAMED}) -> 4 refused: frame under 64 or over 1,518 bytes',
+        f'pair 5: frame (64 bytes, {NAMED}) -> 8 lost: descriptor not granted; PACKET_LOST is set',
+        'pair 6: frame (0 bytes) -> 4 refused: frame under 64 or over 1,518 bytes',
+        "pair 7: 0 bytes from 129 on -> 16 outside: pair passes the store's end",
+    ]),
+    ('burst 1 0a 0 1 0 1', 'burst 16 99', ['4 burst (2 pairs, a store of 1 byte, room for 1 answer) '
+                                           '-> 16 refused: more than 64 pairs, or an answer list of another length']),
+    (f'burst 65 -{" 0 0" * 65}', f'burst 16{" 99" * 65}', [
+        '5 burst (65 pairs, a store of 0 bytes, room for 65 answers) '
+        '-> 16 refused: more than 64 pairs, or an answer list of another length']),
+    ('burst 0 -', 'burst 0', ['6 burst (0 pairs, a store of 0 bytes, room for 0 answers) '
+                              '-> 0 done: 0 delivered, 0 lost, 0 refused, 0 outside']),
+]
+BURST_TOTALS = ['calls 6', 'grants made 2', 'bursts made 2 7 pairs, 2 outside the store', 'bursts refused 2',
+                'frames delivered 2 128 bytes', 'frames lost 1 64 bytes', 'frames refused 2',
+                '4 2 frame under 64 or over 1,518 bytes']
+# what the picture shows, in its order: kind, line and number shown; a refused call has a sign of its own
+BURST_SIGNS = [('grants', 1, ''), ('grants', 2, ''), ('delivered', 3, ''), ('delivered', 3, ''), ('refused', 3, '16'),
+               ('refused', 3, '4'), ('lost', 3, ''), ('refused', 3, '4'), ('refused', 3, '16'), ('refused', 4, '16'),
+               ('refused', 5, '16')]
+
 # name, script, output, what the report has to say; each ends with status 1
 FAULTS = [
     ('output ends early', 'line\nline\n', 'line 0\n', 'line 2: the output ends before the answer to "line"'),
@@ -113,8 +157,26 @@ FAULTS = [
     ('another answer', 'grant 0\n', 'frame 0\n', 'line 1: "frame 0" does not answer "grant 0"'),
     ('an error elsewhere', 'grant 0\n', 'error 2\n', '"error 2" does not answer "grant 0"'),
     ('an answer cut', 'read 8\n', 'read 0 0000\n', '"read 0 0000" does not answer "read 8"'),
-    ('no numbered result', 'grant 0\n', 'grant 16\n', '16 is no numbered result'),
+    ('no numbered result', 'grant 0\n', 'grant 17\n', '17 is no numbered result'),
+    ("a burst's number", 'grant 0\n', 'grant 16\n', '16 answers nothing but a burst'),
     ('bytes cut', 'run 1 1518\n', 'run 0 1 64 00\n', '64 bytes promised, 1 written'),
+    ('an answer too few', 'burst 2 - 0 0 0 0\n', 'burst 0 4\n',
+     'line 1, answer to "burst 2 - 0 0 0 0": 2 answers promised, 1 written'),
+    ('an answer too many', 'burst 1 - 0 0\n', 'burst 0 4 4\n', '1 answer promised, 2 written'),
+    ('no answers', 'burst 1 - 0 0\n', 'burst\n', '"burst" does not answer "burst 1 - 0 0"'),
+    ('a start without its length', 'burst 1 - 0\n', 'burst 0 4\n', '"burst 1 - 0" is no call known here'),
+    ('a burst done that has other lengths', 'burst 1 - 0 0 0 0\n', 'burst 0 4\n',
+     '0, yet it has 2 pairs and room for 1 answer'),
+    ('a burst done that is too long', f'burst 65 -{" 0 0" * 65}\n', f'burst 0{" 4" * 65}\n',
+     '0, yet it has 65 pairs and room for 65 answers'),
+    ('a burst refused that is not too long', f'burst 64 -{" 0 0" * 64}\n', f'burst 16{" 99" * 64}\n',
+     '16, yet it has 64 pairs and room for 64 answers'),
+    ('no answer of a burst', 'burst 0 -\n', 'burst 8\n', '8, yet it has 0 pairs and room for 0 answers'),
+    ('a refused burst with an answer', 'burst 2 - 0 0\n', 'burst 16 99 4\n', 'refused, yet an answer is no longer 99'),
+    ('a pair without an answer', 'burst 2 - 0 0 0 0\n', 'burst 0 4 99\n', 'pair 2: 99 is no numbered result'),
+    ('a pair outside delivered', 'burst 1 00 1 1\n', 'burst 0 0\n', 'pair 1: 0, yet the pair passes the end of the store'),
+    ('a pair inside not received', 'burst 2 00 0 1 1 0\n', 'burst 0 4 16\n',
+     'pair 2: 16, yet the pair does not pass the end of the store'),
     ('no text', 'line\n', b'\xff\x00\n', 'does not answer "line"'),
 ]
 
@@ -166,8 +228,30 @@ class Tests:
         status, text = self.report('# Pr\u00fcfung \x07 & <b>\n\n# First\n# more\nline\n#\n', 'line 0\n', '--svg', picture)
         wanted = ['Pr\u00fcfung \\x07 & <b>', '1. First', 'more']
         self.expect('headings', status == 0 and set(wanted) <= set(rows(text)), text)
-        titles = [element.text for element in ElementTree.parse(picture).getroot().iter('{http://www.w3.org/2000/svg}title')]
+        titles = [element.text for element in ElementTree.parse(picture).getroot().iter(f'{SVG}title')]
         self.expect("the picture's title", titles[:1] == wanted[:1], titles)
+
+    def bursts(self):
+        """A burst is told pair by pair, counted frame by frame, and drawn so within a box."""
+        script, output = (''.join(f'{line[part]}\n' for line in BURSTS) for part in (0, 1))
+        picture = self.folder / 'bursts.svg'
+        status, text = self.report(script, output, '--svg', picture)
+        calls, sums = re.sub(r'\n +->', ' ->', text).split('\nWhat the day comes to\n')
+        wanted = [told for line in BURSTS for told in line[2]]
+        self.expect('bursts', status == 0 and [row for row in rows(calls) if row] == wanted, text)
+        for wanted in BURST_TOTALS:
+            self.expect(f'bursts: {wanted}', wanted in rows(sums), text)
+        root = ElementTree.parse(picture).getroot()
+        given = [(sign.kind, sign.line, sign.number) for sign in signs(root)]
+        self.expect('signs of bursts', given == BURST_SIGNS, given)
+        # each stands in a column of its own, also those of one call
+        places = [sign.x for sign in signs(root)]
+        self.expect('places of bursts', places == sorted(set(places)), places)
+        given = [element.text for element in root.iter(f'{SVG}text')]
+        self.expect('bursts in the head', any('2 bursts made, 2 refused, 2 pairs outside' in text for text in given), given)
+        given = [[sign.title for sign in box] for box in boxes(root)]
+        self.expect('the box of a burst', given == [[f'line 3: {told}' for told in BURSTS[2][2][1:]]], given)
+        self.expect('fill in bursts', fill(root, 2) == [0, 1, 2, 1, 0], fill(root, 2))
 
     def faults(self):
         for name, script, output, wanted in FAULTS:
@@ -183,11 +267,16 @@ class Tests:
         frames = [bytes.fromhex(line.split()[1]) for line in script.splitlines() if line.startswith('frame ')]
         self.expect("the day's frames are what they are meant to be",
                     [refusal(frame) for frame in frames] == [0 if number in (8, 11) else number for number in FRAMES])
+        pairs = [found(*line.split()[2:]) for line in script.splitlines() if line.startswith('burst ')]
+        self.expect("the burst's frames are what they are meant to be",
+                    pairs == [[0 if number == 8 else number for number in BURST[1:]]], pairs)
         done = subprocess.run([program], input=script.encode(), capture_output=True, timeout=60)
         answers = done.stdout.decode().splitlines()
         for name, wanted in [('grant', GRANTS), ('frame', FRAMES)]:
             given = [int(answer.split()[1]) for answer in answers if answer.startswith(f'{name} ')]
             self.expect(f'{name}s of the day', given == wanted, given)
+        given = [[int(word) for word in answer.split()[1:]] for answer in answers if answer.startswith('burst ')]
+        self.expect('the burst of the day', given == [BURST], given)
         picture = self.folder / 'day.svg'
         status, text = self.report(script, done.stdout, '--svg', picture)
         self.expect('status of the day', status == 0, text)
@@ -197,14 +286,57 @@ class Tests:
         self.picture(ElementTree.parse(picture).getroot())
 
     def picture(self, root):
-        signs = [element.get('class', '').split() for element in root.iter('{http://www.w3.org/2000/svg}g')]
+        kinds = [sign.kind for sign in signs(root)]
         for kind, wanted in MARKS.items():
-            given = signs.count(['mark', kind])
+            given = kinds.count(kind)
             self.expect(f'marks in the picture: {kind}', given == wanted, given)
-        line, = [element.get('d') for element in root.iter('{http://www.w3.org/2000/svg}path') if element.get('class') == 'fill']
-        first, *others = [float(y) for y in re.findall(r'M\S+ ([\d.]+)', line) + re.findall(r'V([\d.]+)', line)]
-        one = (first - min(others)) / max(FILL)
-        self.expect('fill in the picture', [(first - y) / one for y in [first] + others] == FILL, line)
+        given = [[sign.kind for sign in box] for box in boxes(root)]
+        self.expect('the burst in the picture', given == [BURST_MARKS], given)
+        self.expect('fill in the picture', fill(root, max(FILL)) == FILL, fill(root, max(FILL)))
+
+
+@dataclasses.dataclass
+class Sign:
+    """A mark of a picture: its kind, where it stands, the number in it, and what it says."""
+    kind: str
+    x: float
+    number: str
+    title: str
+
+    @property
+    def line(self):
+        return int(re.match(r'line (\d+):', self.title)[1])
+
+
+def signs(root):
+    """The marks of a picture, in its order. The last part of each begins with its place, a lost one's 4.5 beside it."""
+    found = []
+    for element in root.iter(f'{SVG}g'):
+        name, *kind = element.get('class').split()
+        if name == 'mark':
+            last = element[-1]
+            place = re.match(r'M?([\d.]+)', last.get('x') or last.get('cx') or last.get('d'))
+            found.append(Sign(*kind, float(place[1]), last.text or '', element.find(f'{SVG}title').text))
+    return found
+
+
+def boxes(root):
+    """The marks in each box of a picture, from left to right."""
+    found = []
+    for element in root.iter(f'{SVG}rect'):
+        if element.get('class') == 'burst':
+            left = float(element.get('x'))
+            right = left + float(element.get('width'))
+            found.append([sign for sign in sorted(signs(root), key=lambda sign: sign.x) if left < sign.x < right])
+    return found
+
+
+def fill(root, most):
+    """The steps of a picture's ring fill, of which the highest is known."""
+    line, = [element.get('d') for element in root.iter(f'{SVG}path') if element.get('class') == 'fill']
+    first, *others = [float(y) for y in re.findall(r'M\S+ ([\d.]+)', line) + re.findall(r'V([\d.]+)', line)]
+    one = (first - min(others)) / most
+    return [(first - y) / one for y in [first] + others]
 
 
 def refusal(frame):
@@ -214,6 +346,13 @@ def refusal(frame):
     if zlib.crc32(frame[:-4]) != int.from_bytes(frame[-4:], 'little'):
         return 5
     return 0 if frame[:6] in (STATION, BROADCAST) else 6
+
+
+def found(store, *numbers):
+    """For each pair of a burst the first refusal that the bytes there meet, or 16 where it is outside."""
+    store, numbers = bytes.fromhex(store), [int(number) for number in numbers]
+    ends = [(start, start + length) for start, length in zip(numbers[::2], numbers[1::2])]
+    return [16 if len(store) < end else refusal(store[start:end]) for start, end in ends]
 
 
 def rows(text):
@@ -227,6 +366,7 @@ def main(program):
         tests.lines()
         tests.ring()
         tests.headings()
+        tests.bursts()
         tests.faults()
         tests.day(str(pathlib.Path(program).resolve()))
     print(f'report: {tests.passed} passed, {tests.failed} failed')

@@ -9,6 +9,9 @@ NUMBER = r'([0-9]{1,10})'
 WORD = r'([0-9a-f]{8})'
 BYTES = r'(-|(?:[0-9a-f]{2})+)'
 FLAG = r'([01])'
+# lists, to the end of the line: of starts with their lengths, and of numbers
+PLACES = r'((?: [0-9]{1,8} [0-9]{1,8})*)'
+NUMBERS = r'((?: [0-9]{1,10})*)'
 
 # name of a call: the words behind it in the script, and those behind it in the output
 FORMS = {
@@ -19,6 +22,7 @@ FORMS = {
     'line': ([], [FLAG]),
     'grant': ([HEX], [NUMBER]),
     'frame': ([PAIRS], [NUMBER]),
+    'burst': ([DECIMAL, PAIRS, PLACES], [NUMBER, NUMBERS]),
     'send': ([DECIMAL], [NUMBER, BYTES]),
     'run': ([DECIMAL, DECIMAL], [NUMBER, NUMBER, NUMBER, BYTES]),
     'show': ([HEX], [NUMBER, BYTES]),
@@ -103,12 +107,17 @@ def bytes_of(text):
 def value(form, text):
     if form in BASES:
         return int(text, BASES[form])
+    if form in (PLACES, NUMBERS):
+        numbers = [int(word) for word in text.split()]
+        return list(zip(numbers[::2], numbers[1::2])) if form == PLACES else numbers
     return bytes_of(text) if form in (PAIRS, BYTES) else text
 
 
 def values(name, forms, text):
     """The values in a line of this name and these forms, or None."""
-    found = re.fullmatch(' '.join([name] + forms), text)
+    # each word of a list brings its own space
+    words = [form if form in (PLACES, NUMBERS) else f' {form}' for form in forms]
+    found = re.fullmatch(''.join([name] + words), text)
     return found and [value(form, word) for form, word in zip(forms, found.groups())]
 
 

@@ -1,4 +1,8 @@
-"""The picture of a bench day: what became of grants and frames, and the ring's fill, over the calls."""
+"""The picture of a bench day: what became of grants and frames, and the ring's fill, over the calls.
+
+A call has one column; a burst has one for each of its pairs, with a box around them.
+"""
+import itertools
 import xml.etree.ElementTree as ElementTree
 
 import pairing
@@ -17,17 +21,19 @@ LEGEND = {
     'grants': 'grant made',
     'delivered': 'frame delivered',
     'lost': 'frame lost',
-    'refused': 'frame refused, by its number',
+    # a frame, or a burst or one of its pairs
+    'refused': 'refused, by its number',
     'sent': 'frame sent',
 }
 INK, GRID, BAND, FILL, FILL_AREA = '#222222', '#d9d9d9', '#f5f5f5', '#1d3557', '#dbe6f1'
+BURST, BURST_AREA = '#8a6d1b', '#fff4cc'
 
 LEFT, RIGHT = 104, 28
 LEGEND_AT, ROWS_AT, ROW, GAP = 84, 134, 28, 58
 FILL_HEIGHT, FOOT = 168, 56
-# pixels for a call, where the width allows; under the least, a number does not fit
-CALL, NUMBER_LEAST = 12, 11
-WIDTH_LEAST, WIDTH_MOST = 760, 1600
+# pixels for a column, where the width allows; under the least, a number does not fit in it, or beside that of a tick
+COLUMN, NUMBER_LEAST, TICK_LEAST = 12, 11, 20
+WIDTH_LEAST, WIDTH_MOST = 860, 1600
 
 
 class Drawing:
@@ -65,9 +71,10 @@ class Drawing:
         elif kind == 'sent':
             self.put('path', group, d=f'M{x:g} {y - 5.5:g}l5 5.5l-5 5.5l-5 -5.5z', fill=colour)
         else:
-            width = [5, 11, 15][len(number)]
-            self.put('rect', group, x=x - width / 2, y=y - 7, width=width, height=14, rx=2, fill=colour)
-            self.put('text', group, number, x=x, y=y + 3.5, text_anchor='middle', font_size=10, font_weight='bold',
+            # two digits fit into a column too, since the pairs of a burst often have the same number
+            width, size = [(5, 10), (11, 10), (12, 8)][len(number)]
+            self.put('rect', group, x=x - width / 2, y=y - 7, width=width, height=14, rx=2, fill=colour, stroke='#ffffff')
+            self.put('text', group, number, x=x, y=y + 0.35 * size, text_anchor='middle', font_size=size, font_weight='bold',
                      fill='#ffffff')
 
     def document(self):
@@ -86,21 +93,27 @@ def tick_step(most, ticks):
 class Picture:
     def __init__(self, day):
         self.day = day
-        self.calls = max(len(day.calls), 1)
-        width = min(max(self.calls * CALL, WIDTH_LEAST - LEFT - RIGHT), WIDTH_MOST - LEFT - RIGHT)
-        self.call_width = width / self.calls
+        self.columns = [part for call in day.calls for part in call.parts or [call]]
+        # the first column of each call, and the end of the last; an empty day is drawn as one call
+        self.starts = list(itertools.accumulate([len(call.parts) or 1 for call in day.calls] or [1], initial=0))
+        width = min(max(self.starts[-1] * COLUMN, WIDTH_LEAST - LEFT - RIGHT), WIDTH_MOST - LEFT - RIGHT)
+        self.column_width = width / self.starts[-1]
         self.right = LEFT + width
         self.rows_end = ROWS_AT + ROW * len(ROWS)
         self.fill_top = self.rows_end + GAP
         self.fill_end = self.fill_top + FILL_HEIGHT
-        fills = [0] + [call.fill for call in day.calls]
+        fills = [0] + [column.fill for column in self.columns]
         self.least, self.most = min(fills), max(max(fills), min(fills) + 1)
         self.drawing = Drawing(self.right + RIGHT, self.fill_end + FOOT)
         self.put = self.drawing.put
 
     def x(self, k):
-        """The middle of call k, counted from 0."""
-        return round(LEFT + (k + 0.5) * self.call_width, 2)
+        """The middle of column k, counted from 0."""
+        return round(LEFT + (k + 0.5) * self.column_width, 2)
+
+    def start(self, k):
+        """Where call k begins, counted from 0, and the one before it ends."""
+        return round(LEFT + self.starts[k] * self.column_width, 2)
 
     def y(self, fill):
         return round(self.fill_end - (fill - self.least) / (self.most - self.least) * FILL_HEIGHT, 2)
@@ -114,6 +127,7 @@ class Picture:
         self.head()
         self.legend()
         self.headings()
+        self.bursts()
         self.axes()
         self.fill_line()
         self.marks()
@@ -129,6 +143,9 @@ class Picture:
         refused = sum(sums.frames_refused.values())
         words = (f'{count(sums.grants, "grant")}; {count(sums.delivered, "frame")} delivered, {sums.lost} lost, '
                  f'{refused} refused, {sums.sent} sent')
+        if sums.bursts or sums.bursts_refused:
+            words += (f'; {count(sums.bursts, "burst")} made, {sums.bursts_refused} refused, '
+                      f'{count(sums.outside, "pair")} outside')
         self.drawing.text(24, 34, self.title(), font_size=20, font_weight='bold')
         self.drawing.text(24, 56, words, font_size=13)
 
@@ -138,8 +155,12 @@ class Picture:
             self.drawing.mark(kind, x, LEGEND_AT, '6')
             self.drawing.text(x + 11, LEGEND_AT + 4, words)
             x += 40 + 6.2 * len(words)
+        words = "ring's fill"
         self.put('path', d=f'M{x - 8:g} {LEGEND_AT + 4}h8v-8h8', stroke=FILL, stroke_width=2, fill='none')
-        self.drawing.text(x + 13, LEGEND_AT + 4, "ring's fill")
+        self.drawing.text(x + 13, LEGEND_AT + 4, words)
+        x += 40 + 6.2 * len(words)
+        self.put('rect', x=x - 8, y=LEGEND_AT - 7, width=16, height=14, rx=4, fill=BURST_AREA, stroke=BURST)
+        self.drawing.text(x + 13, LEGEND_AT + 4, 'one burst')
 
     def headings(self):
         """The headings that the calls stand under, by their numbers in the report, as bands."""
@@ -152,13 +173,22 @@ class Picture:
                 if spans:
                     spans[-1][2] = k
         for heading, start, end in spans:
-            x, width = LEFT + start * self.call_width, (end - start) * self.call_width
+            x, width = self.start(start), self.start(end) - self.start(start)
             if heading.number % 2:
                 self.put('rect', x=x, y=ROWS_AT, width=width, height=self.fill_end - ROWS_AT, fill=BAND)
             if width >= 16:
                 self.drawing.text(x + width / 2, ROWS_AT - 8, str(heading.number), 'middle', font_size=10, fill='#5f5f5f')
         if spans:
             self.drawing.text(LEFT - 12, ROWS_AT - 8, 'heading', 'end', font_size=10, fill='#5f5f5f')
+
+    def bursts(self):
+        """A box around the frames that came by one call, over the rows that a frame can stand in."""
+        top, end = self.row('delivered') - ROW / 2, self.row('refused') + ROW / 2
+        for k, call in enumerate(self.day.calls):
+            if call.parts:
+                box = self.put('rect', class_='burst', x=self.start(k), y=top, width=self.start(k + 1) - self.start(k),
+                               height=end - top, rx=4, fill=BURST_AREA, stroke=BURST)
+                self.put('title', box, f'line {call.at}: {call.asked} -> {call.answered}')
 
     def axes(self):
         for kind, colour in ROWS.items():
@@ -174,35 +204,43 @@ class Picture:
         middle = (self.fill_top + self.fill_end) / 2
         self.drawing.text(0, 0, 'descriptors', 'middle', transform=f'translate({LEFT - 52} {middle:g}) rotate(-90)')
         self.put('path', d=f'M{LEFT} {self.fill_top}V{self.fill_end}H{self.right:g}', stroke=INK, fill='none')
-        step = tick_step(self.calls, 16)
-        for number in sorted({1, *range(step, self.calls + 1, step)}):
-            x = self.x(number - 1)
+        self.ticks()
+        self.drawing.text((LEFT + self.right) / 2, self.fill_end + 42, 'call of the script', 'middle')
+
+    def ticks(self):
+        calls, last = len(self.starts) - 1, 0
+        step = tick_step(calls, 16)
+        for number in sorted({1, *range(step, calls + 1, step)}):
+            x = (self.start(number - 1) + self.start(number)) / 2
+            # beside a long burst calls stand close together
+            if x < last + TICK_LEAST:
+                continue
+            last = x
             self.put('path', d=f'M{x:g} {self.fill_end}v5', stroke=INK)
             self.drawing.text(x, self.fill_end + 19, str(number), 'middle')
-        self.drawing.text((LEFT + self.right) / 2, self.fill_end + 42, 'call of the script', 'middle')
 
     def fill_line(self):
         path, now = f'M{LEFT} {self.y(0):g}', 0
-        for k, call in enumerate(self.day.calls):
-            if call.fill != now:
-                now = call.fill
+        for k, column in enumerate(self.columns):
+            if column.fill != now:
+                now = column.fill
                 path += f'H{self.x(k):g}V{self.y(now):g}'
         path += f'H{self.right:g}'
         self.put('path', d=f'{path}V{self.y(0):g}H{LEFT}z', fill=FILL_AREA, stroke='none')
         self.put('path', class_='fill', d=path, stroke=FILL, stroke_width=2, fill='none')
 
     def marks(self):
-        for k, call in enumerate(self.day.calls):
-            if not call.kind:
+        for k, column in enumerate(self.columns):
+            if not column.kind:
                 continue
-            x, y = self.x(k), self.row(call.kind)
-            if call.kind == 'lost':
+            x, y = self.x(k), self.row(column.kind)
+            if column.kind == 'lost':
                 self.put('path', d=f'M{x:g} {y:g}V{self.rows_end}M{x:g} {self.fill_top}V{self.fill_end}',
                          stroke=ROWS['lost'], stroke_dasharray='3 4')
-            if call.times > 1:
-                self.drawing.text(x, y - 7.5, f'\u00d7{call.times}', 'middle', font_size=10, fill=ROWS[call.kind])
-            number = str(call.number) if self.call_width >= NUMBER_LEAST else ''
-            self.drawing.mark(call.kind, x, y, number, f'line {call.at}: {call.asked} -> {call.answered}')
+            if column.times > 1:
+                self.drawing.text(x, y - 7.5, f'\u00d7{column.times}', 'middle', font_size=10, fill=ROWS[column.kind])
+            number = str(column.number) if self.column_width >= NUMBER_LEAST else ''
+            self.drawing.mark(column.kind, x, y, number, f'line {column.at}: {column.asked} -> {column.answered}')
 
 
 def svg(day):

@@ -10,6 +10,9 @@ from wording import count, message
 # calls whose answer begins with a numbered result
 NUMBERED = {name for name, (_, answer) in pairing.FORMS.items() if answer[:1] == [pairing.NUMBER]}
 
+# a burst has no more pairs; an answer before the call, which a refused burst leaves
+PAIRS_MOST, UNANSWERED = 64, 99
+
 
 @dataclasses.dataclass
 class Told:
@@ -19,7 +22,9 @@ class Told:
     answered: str = ''
     # further lines
     more: list = dataclasses.field(default_factory=list)
-    # grants, delivered, lost, refused or sent; a frame's number; how many frames or grants
+    # of a burst: its pairs in their order, each as a `Told` of its own
+    parts: list = dataclasses.field(default_factory=list)
+    # grants, delivered, lost, refused or sent; the answer's number; how many frames or grants
     kind: str = ''
     number: int = 0
     times: int = 1
@@ -31,6 +36,11 @@ class Told:
 class Totals:
     calls: int = 0
     grants: int = 0
+    bursts: int = 0
+    bursts_refused: int = 0
+    # of the bursts made: their pairs, and those of them that hold no frame
+    pairs: int = 0
+    outside: int = 0
     delivered: int = 0
     delivered_bytes: int = 0
     lost: int = 0
@@ -62,12 +72,39 @@ def frames_in(data, frames):
     return found if len(found) == frames else []
 
 
+def odd_pair(store, start, length, number):
+    """What is wrong with the answer to one pair of a burst, or nothing."""
+    if len(wording.NUMBERS) <= number:
+        return f'{number} is no numbered result'
+    outside = start + length > len(store)
+    if outside != (number == 16):
+        return f'{number}, yet the pair {"passes" if outside else "does not pass"} the end of the store'
+    return ''
+
+
+def odd_burst(room, store, places, number, answers):
+    """What is wrong with the answer to a burst, or nothing. Only what passes here can be told pair by pair."""
+    if len(answers) != room:
+        return f'{count(room, "answer")} promised, {len(answers)} written'
+    refused = len(places) > PAIRS_MOST or len(places) != room
+    if number != (16 if refused else 0):
+        return f'{number}, yet it has {count(len(places), "pair")} and room for {count(room, "answer")}'
+    if refused:
+        return '' if set(answers) <= {UNANSWERED} else f'refused, yet an answer is no longer {UNANSWERED}'
+    wrong = [odd_pair(store, *place, answer) for place, answer in zip(places, answers)]
+    return next((f'pair {at}: {words}' for at, words in enumerate(wrong, 1) if words), '')
+
+
 def odd(call):
     """What is wrong with an answer of the right form, or nothing."""
     if call.name in NUMBERED and len(wording.NUMBERS) <= call.answer[0]:
         return f'{call.answer[0]} is no numbered result'
     if call.name == 'run' and call.answer[2] != len(call.answer[3]):
         return f'{count(call.answer[2], "byte")} promised, {len(call.answer[3])} written'
+    if call.name == 'burst':
+        return odd_burst(*call.arguments, *call.answer)
+    if call.name in NUMBERED and call.answer[0] == 16:
+        return '16 answers nothing but a burst'
     return ''
 
 
@@ -171,6 +208,31 @@ class Day:
         else:
             told.kind, told.answered = 'refused', wording.answer(number)
             add(self.totals.frames_refused, number)
+
+    def tell_burst(self, told, room, store, places, number, answers):
+        told.asked = (f'burst ({count(len(places), "pair")}, a store of {count(len(store), "byte")}, '
+                      f'room for {count(room, "answer")})')
+        if number:
+            told.kind, told.number, told.answered = 'refused', number, f'{number} refused: {wording.WHOLE_BURST}'
+            self.totals.bursts_refused += 1
+            return
+        told.answered = f'0 done: {wording.became(answers)}'
+        told.parts = [self.pair(told.at, store, *place, answer) for place, answer in zip(places, answers)]
+        for place, part in enumerate(told.parts, 1):
+            part.asked = f'pair {place}: {part.asked}'
+        self.totals.bursts += 1
+        self.totals.pairs += len(places)
+
+    def pair(self, at, store, start, length, number):
+        """One pair of a burst: a frame as one that comes by itself, or none where it is outside."""
+        told = Told(at, f'{count(length, "byte")} from {start} on')
+        if number == 16:
+            told.kind, told.number, told.answered = 'refused', number, f'16 outside: {wording.NUMBERS[16]}'
+            self.totals.outside += 1
+        else:
+            self.tell_frame(told, store[start:start + length], number)
+        told.fill = self.fill
+        return told
 
     def tell_send(self, told, room, number, data):
         told.answered = wording.answer(number, f'sent {message(data, 4)}')

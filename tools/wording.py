@@ -1,6 +1,6 @@
 """The words of a report: numbered results, registers, frames and descriptors."""
 
-# document 01, "Numbered results", the column "Given when"
+# document 01, "Numbered results", the column "Given when"; from 16 on document 02
 NUMBERS = [
     'done',
     'window not allowed',
@@ -19,7 +19,10 @@ NUMBERS = [
     'descriptor not at a multiple of 4 or not all in the window',
     'descriptor already granted',
     'next-descriptor register written while its engine runs',
+    # of one pair of a burst; of a whole burst WHOLE_BURST
+    "pair passes the store's end",
 ]
+WHOLE_BURST = 'more than 64 pairs, or an answer list of another length'
 
 # what a refusal changes, where it changes anything; 8 does so on receive only
 LEAVES = {
@@ -77,6 +80,13 @@ def answer(number, done=''):
         return f'0 done: {done}' if done else '0 done'
     left = f'; {LEAVES[number]}' if number in LEAVES else ''
     return f'{number} refused: {NUMBERS[number]}{left}'
+
+
+def became(answers):
+    """What became of a burst's pairs, by their answers."""
+    delivered, lost, outside = (answers.count(number) for number in (0, 8, 16))
+    refused = len(answers) - delivered - lost - outside
+    return f'{delivered} delivered, {lost} lost, {refused} refused, {outside} outside'
 
 
 # ---- registers

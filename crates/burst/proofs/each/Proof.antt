@@ -41,7 +41,7 @@ turn-requires : tie.Need-turn-requires Inv-loop μ-loop
 turn-requires c κs = search needs
 
 add-i : tie.Need-add-i Inv-loop μ-loop
-add-i c = let l = c .before .before .before .before .before .before .before .before .before .before .loop in omega (arith, l .inv .0 .1, c .before .before .before .before .before .before .before .before .before .loop-test)
+add-i c = omega (arith, c .before .before .before .before .before .before .before .before .before .before .loop .inv .0 .1)
 
 loop-less : tie.Need-loop-less Inv-loop μ-loop
 loop-less c = omega arith
