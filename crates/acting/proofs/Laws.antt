@@ -6,15 +6,15 @@ use lib.ListN.{length}
 use Rattle.enet.specs.declared.Answered.{Answered}
 use Rattle.enet.specs.Device.{new as newBench}
 use Rattle.enet.specs.Access.{write as writeRegister}
-use Rattle.words.specs.Words.{characters, rest}
+use Rattle.words.specs.Words.{characters, first, rest}
 use Rattle.text.specs.Text.{written, put}
 use Rattle.commands.specs.declared.Console.{Console}
 use Rattle.commands.specs.declared.Told.{Told}
 use Rattle.commands.specs.Answers.{Given, withDevice, withBench, given, tells}
 use Rattle.replies.specs.Replies.{said, numbered}
-use Rattle.commands.specs.Commands.{zeros, output, named, new, lend, write, grant, frame, send, run, poke}
+use Rattle.commands.specs.Commands.{zeros, output, named, answerList, starts, lengths, new, lend, write, grant, frame, burst, send, run, poke}
 use Rattle.kinds.specs.declared.Act.{Act}
-use Rattle.kinds.specs.declared.Act.the-variants.{New, Lend, Write, Grant, Frame, Send, Run, Poke}
+use Rattle.kinds.specs.declared.Act.the-variants.{New, Lend, Write, Grant, Frame, Burst, Send, Run, Poke}
 use Rattle.acting.specs.Acts.{acts}
 
 module _ (c : Console) (m line t : List ℕ) (a b at : ℕ) (k : Act) where
@@ -25,6 +25,10 @@ module _ (c : Console) (m line t : List ℕ) (a b at : ℕ) (k : Act) where
 
     pub frame-called : (w : List ℕ) → k ≡ Frame → w ≡ rest line → x ≡ tells (frame c m (named w)) t at → x ≡ tells (acts k c m a b line) t at
     frame-called w e r h = rw (e, ← r) h
+
+    pub burst-called : k ≡ Burst → x ≡ tells (burst c m (named (first (rest (rest line)))) (starts b line) (lengths b line) (answerList a)) t at
+        → x ≡ tells (acts k c m a b line) t at
+    burst-called e h = rw e h
 
     pub send-called : k ≡ Send → x ≡ tells (send c m (output a)) t at → x ≡ tells (acts k c m a b line) t at
     send-called e h = rw e h

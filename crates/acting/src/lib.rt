@@ -53,6 +53,7 @@ pub fn acted(
         Act::Write => lending::answered(console, console.device.write(a, b), b"write", text, at),
         Act::Grant => lending::grant(console, a, memory, text, at),
         Act::Frame => lending::frame(console, words::rest(line), memory, text, at),
+        Act::Burst => bursting::burst(console, a, b, line, memory, text, at),
         Act::Send => outgoing::send(console, a, memory, text, at),
         Act::Run => outgoing::run(console, a, b, memory, text, at),
         Act::Poke => {

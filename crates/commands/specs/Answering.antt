@@ -6,19 +6,19 @@ use lib.Dec.{eqb}
 use lib.ListN.{length, getD}
 use Rattle.rules.specs.Choice.{if_then_else_}
 use Rattle.enet.specs.Device.{reset as resetBench}
-use Rattle.words.specs.Words.{rest}
+use Rattle.words.specs.Words.{first, rest}
 use Rattle.script.specs.declared.Command.{Command}
-use Rattle.script.specs.declared.Command.the-variants.{New, Lend, Read, Write, Line, Grant, Frame, Send, Run, Show, Ring, Poke, Peek, Check, State, Error}
+use Rattle.script.specs.declared.Command.the-variants.{New, Lend, Read, Write, Line, Grant, Frame, Burst, Send, Run, Show, Ring, Poke, Peek, Check, State, Error}
 use Rattle.script.specs.Calls.{callOf}
 use Rattle.commands.specs.declared.Console.{Console}
 use Rattle.commands.specs.Answers.{Answer, answers}
-use Rattle.commands.specs.Commands.{lent, output, named, new, lend, readSays, write, lineSays, grant, frame, send, run, showSays, ringSays, poke, peekSays, checkSays, stateSays, errorSays}
+use Rattle.commands.specs.Commands.{lent, output, named, answerList, starts, lengths, new, lend, readSays, write, lineSays, grant, frame, burst, send, run, showSays, ringSays, poke, peekSays, checkSays, stateSays, errorSays}
 
 -- "Before the first `new` the bench is that of answer 1", with no bytes lent
 unfoldable pub reset : Console
 reset = record { device = resetBench; lent = 0; lines = 0 }
 
--- the answer to a call, by its command: its numbers are a and b, and its bytes stand in the line
+-- the answer to a call, by its command: its numbers are a and b, and its bytes and pairs stand in the line
 abbrev pub answerTo : Command → Console → List ℕ → ℕ → ℕ → List ℕ → Answer
 answerTo New c m a b line = new c m a b
 answerTo Lend c m a b line = lend c m a
@@ -27,6 +27,7 @@ answerTo Write c m a b line = write c m a b
 answerTo Line c m a b line = answers c m (lineSays (c .device))
 answerTo Grant c m a b line = grant c m a
 answerTo Frame c m a b line = frame c m (named (rest line))
+answerTo Burst c m a b line = burst c m (named (first (rest (rest line)))) (starts b line) (lengths b line) (answerList a)
 answerTo Send c m a b line = send c m (output a)
 answerTo Run c m a b line = run c m a (output b)
 answerTo Show c m a b line = answers c m (showSays (c .device) (lent c m) a)

@@ -1,6 +1,6 @@
 -- The commands of docs/CONSOLE.md, in its order, each under its row of the table: what it writes, and what it does.
 -- Assumes nothing.
-use Prim.Native.Nat.{ℕ}
+use Prim.Native.Nat.{ℕ, min}
 use mathlib.Core.List.{List, _++_}
 use lib.ListN.{length, take, drop, replicate}
 use Rattle.rules.specs.Choice.{if_then_else_}
@@ -15,13 +15,16 @@ use Rattle.enet.specs.Access.{read as readRegister, write as writeRegister, int
 use Rattle.enet.specs.Frames.{grant as grantAt, receive}
 use Rattle.enet.specs.Send.{send as sendInto}
 use Rattle.enet.specs.Run.{run as runInto}
-use Rattle.words.specs.Words.{characters}
+use Rattle.burst.specs.Burst.{burstOf}
+use Rattle.words.specs.Words.{characters, rest}
 use Rattle.forms.specs.Pairs.{bytesOf}
+use Rattle.pair_words.specs.PairWords.{everyOther}
 use Rattle.commands.specs.declared.Console.{Console}
 use Rattle.commands.specs.Answers.{Answer, answers, withDevice, withBench}
 use Rattle.replies.specs.Replies.{said, either, numbered, valued}
 use Rattle.reports.specs.Reports.{read as readLine, held, shown}
 use Rattle.long_reports.specs.LongReports.{ran, engines}
+use Rattle.list_reports.specs.ListReports.{listed}
 
 -- "The device sees what is lent", the first bytes of memory; the others stay as they are
 abbrev pub lent : Console → List ℕ → List ℕ
@@ -40,6 +43,17 @@ output room = take room (zeros 65_536)
 -- the bytes that a word names; no line names more than 2,048
 abbrev pub named : List ℕ → List ℕ
 named word = take 2048 (bytesOf word)
+
+-- "The numbers of the answer list of `burst` are 99 before the call", ROOM of them, "at most 66"
+abbrev pub answerList : ℕ → List ℕ
+answerList room = take room (replicate 66 99)
+
+-- the pairs of `burst` stand behind BYTES, START before LENGTH; no line names more than 66
+abbrev pub starts : ℕ → List ℕ → List ℕ
+starts n line = everyOther (min n 66) (rest (rest (rest line)))
+
+abbrev pub lengths : ℕ → List ℕ → List ℕ
+lengths n line = everyOther (min n 66) (rest (rest (rest (rest line))))
 
 -- `new BASE LENGTH`: `new N`. "a new bench over a window of LENGTH bytes, seen from BASE on; memory is all zero, and the window
 -- is lent". "`new` sets all 65,544 to zero, also when it answers 1; then the window has no bytes and none are lent."
@@ -75,6 +89,13 @@ unfoldable pub frame : Console → List ℕ → List ℕ → Answer
 frame c m s =
     let o = receive (c .device) (lent c m) s in
     answers (withDevice c (o .device)) (behindLent c m (o .memory)) (numbered (characters "frame") (o .number))
+
+-- `burst ROOM BYTES START LENGTH START LENGTH ..`: `burst N A A ..`. "frames out of one store, BYTES, come in by one call: of 0
+-- to 66 pairs, in their order, the LENGTH bytes from START on; all ROOM numbers of the answer list"
+unfoldable pub burst : Console → List ℕ → List ℕ → List ℕ → List ℕ → List ℕ → Answer
+burst c m s ss ns out =
+    let b = burstOf (c .device) (lent c m) s ss ns out in
+    answers (withDevice c (b .device)) (behindLent c m (b .memory)) (listed (characters "burst") (b .number) (b .answers))
 
 -- `send ROOM`: `send N BYTES`. "a single send into an output of ROOM bytes, at most 65536; the bytes sent"
 unfoldable pub send : Console → List ℕ → List ℕ → Answer

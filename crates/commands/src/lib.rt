@@ -1,6 +1,6 @@
 // What the bench console's commands do and write, as definitions (specs/, in the order of docs/CONSOLE.md), the console's
 // state, its next state, and how much of a buffer a command has. The code stands in the crates above: queries, peeking, poking,
-// lending, outgoing, asking, acting, console.
+// lending, outgoing, bursting, asking, acting, console.
 ghost use mathlib.Core.Path.{_≡_};
 ghost use Prim.Native.Nat.{min};
 ghost use Rattle.commands.specs.Answers.{withDevice};

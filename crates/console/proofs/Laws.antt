@@ -10,7 +10,7 @@ use Rattle.enet.specs.declared.Enet.{Enet}
 use Rattle.enet.specs.Device.{reset as resetBench}
 use Rattle.script.specs.declared.Call.{Call}
 use Rattle.script.specs.declared.Command.{Command}
-use Rattle.script.specs.declared.Command.the-variants.{New, Lend, Read, Write, Line, Grant, Frame, Send, Run, Show, Ring, Poke, Peek, Check, State, Error}
+use Rattle.script.specs.declared.Command.the-variants.{New, Lend, Read, Write, Line, Grant, Frame, Burst, Send, Run, Show, Ring, Poke, Peek, Check, State, Error}
 use Rattle.script.specs.Calls.{callOf}
 use Rattle.text.proofs.Laws.{put-nothing}
 use Rattle.commands.specs.declared.Console.{Console}
@@ -40,6 +40,7 @@ module _ (c : Console) (m line : List ℕ) (a b : ℕ) where
   by-kind Line = refl
   by-kind Grant = refl
   by-kind Frame = refl
+  by-kind Burst = refl
   by-kind Send = refl
   by-kind Run = refl
   by-kind Show = refl

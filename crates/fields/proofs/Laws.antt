@@ -9,7 +9,7 @@ use lib.ListN.{length, getD, drop, drop-of-length-le}
 use lib.Seq.{drop-cons}
 use Rattle.words.specs.Words.{characters}
 use Rattle.text.specs.Text.{Text, written, put}
-use Rattle.fields.specs.Fields.{digits, number, glyph, pair, pairs, bytes, value}
+use Rattle.fields.specs.Fields.{each, digits, number, glyph, pair, pairs, bytes, value}
 use Rattle.text.proofs.Laws.{put-more, put-then, put-nothing}
 
 -- ---- the digits of a number
@@ -38,6 +38,22 @@ module _ (t : List ℕ) (at n most : ℕ) (x : Text) where
       → x ≡ put t′ end ((48 + n % 10) ∷ []) → x ≡ put t at (digits most n)
   digits-more t′ end z l e h = rw (digits-great most n z l) (put-then t t′ at end _ _ x e h)
 
+-- ---- a field for each of some numbers: the turns of a loop over them, and its end
+
+module _ (field : ℕ → List ℕ) (s : List ℕ) where
+  each-next : (i : ℕ) → i < length s → each field (drop i s) ≡ field (getD s i 0) ++ each field (drop (i + 1) s)
+  unfolding each
+  each-next i h = rw (add-one, drop-cons s i 0 h)
+
+  pub each-turn : (t t′ : List ℕ) (end end′ i : ℕ) (all : Text) → written end′ t′ ≡ put t end (field (getD s i 0)) → i < length s
+      → put t end (each field (drop i s)) ≡ all → put t′ end′ (each field (drop (i + 1) s)) ≡ all
+  each-turn t t′ end end′ i all e h so-far =
+      put-more t t′ end end′ (field (getD s i 0)) (each field (drop (i + 1) s)) e ∙ ap (put t end) (sym (each-next i h)) ∙ so-far
+
+  pub each-end : (t : List ℕ) (end i : ℕ) (all : Text) → put t end (each field (drop i s)) ≡ all → length s ≤ i → end ≤ length t → written end t ≡ all
+  unfolding each
+  each-end t end i all so-far l h = put-nothing t end end (omega arith) ∙ (rw (drop-of-length-le s {i = i} l) at so-far)
+
 -- ---- bytes in pairs
 
 -- the character of a digit below 10, and of one above
@@ -53,19 +69,6 @@ pub pair-is : (t : List ℕ) (at b high low : ℕ) (x : Text) → high ≡ glyph
     → x ≡ put t at (high ∷ low ∷ []) → x ≡ put t at (pair b)
 unfolding pair
 pair-is t at b high low x h l e = rw (← h, ← l) e
-
-pairs-next : (s : List ℕ) (i : ℕ) → i < length s → pairs (drop i s) ≡ pair (getD s i 0) ++ pairs (drop (i + 1) s)
-unfolding pairs
-pairs-next s i h = rw (add-one, drop-cons s i 0 h)
-
-pub pairs-turn : (s t t′ : List ℕ) (end end′ i : ℕ) (all : Text) → written end′ t′ ≡ put t end (pair (getD s i 0)) → i < length s
-    → put t end (pairs (drop i s)) ≡ all → put t′ end′ (pairs (drop (i + 1) s)) ≡ all
-pairs-turn s t t′ end end′ i all e h so-far =
-    put-more t t′ end end′ (pair (getD s i 0)) (pairs (drop (i + 1) s)) e ∙ ap (put t end) (sym (pairs-next s i h)) ∙ so-far
-
-pub pairs-end : (s t : List ℕ) (end i : ℕ) (all : Text) → put t end (pairs (drop i s)) ≡ all → length s ≤ i → end ≤ length t → written end t ≡ all
-unfolding pairs
-pairs-end s t end i all so-far l h = put-nothing t end end (omega arith) ∙ (rw (drop-of-length-le s {i = i} l) at so-far)
 
 -- ---- fields, each behind a space
 

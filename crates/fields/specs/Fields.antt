@@ -8,6 +8,11 @@ use lib.ListN.{length}
 use Rattle.rules.specs.Choice.{if_then_else_}
 use Rattle.words.specs.Words.{characters}
 
+-- what stands for each of some numbers, one behind the other
+unfoldable pub each : (ℕ → List ℕ) → List ℕ → List ℕ
+each field [] = []
+each field (n ∷ s) = field n ++ each field s
+
 -- at most so many decimal digits of n, without zeros in front
 unfoldable pub digits : ℕ → ℕ → List ℕ
 digits zero n = []
@@ -25,9 +30,8 @@ glyph d = if ltb d 10 then 48 + d else 87 + d
 unfoldable pub pair : ℕ → List ℕ
 pair b = glyph (b / 16) ∷ glyph (b % 16) ∷ []
 
-unfoldable pub pairs : List ℕ → List ℕ
-pairs [] = []
-pairs (b ∷ s) = pair b ++ pairs s
+abbrev pub pairs : List ℕ → List ℕ
+pairs s = each pair s
 
 -- "or `-` for none"
 unfoldable pub bytes : List ℕ → List ℕ

@@ -1,6 +1,6 @@
 -- The console's commands in two kinds: those that ask, and those that act. Assumes nothing.
 use Rattle.script.specs.declared.Command.{Command}
-use Rattle.script.specs.declared.Command.the-variants.{New, Lend, Read, Write, Line, Grant, Frame, Send, Run, Show, Ring, Poke, Peek, Check, State, Error}
+use Rattle.script.specs.declared.Command.the-variants.{New, Lend, Read, Write, Line, Grant, Frame, Burst, Send, Run, Show, Ring, Poke, Peek, Check, State, Error}
 use Rattle.kinds.specs.declared.Kind.{Kind}
 use Rattle.kinds.specs.declared.Kind.the-variants.{Asks, Acts}
 use Rattle.kinds.specs.declared.Query.the-variants as query
@@ -14,6 +14,7 @@ kindOf Write = Acts act.Write
 kindOf Line = Asks query.Line
 kindOf Grant = Acts act.Grant
 kindOf Frame = Acts act.Frame
+kindOf Burst = Acts act.Burst
 kindOf Send = Acts act.Send
 kindOf Run = Acts act.Run
 kindOf Show = Asks query.Show

@@ -10,9 +10,12 @@ use Rattle.rules.proofs.Choices.{said-not}
 use Rattle.forms.specs.declared.numbers.Number.{Number}
 use Rattle.forms.specs.declared.numbers.Number.the-variants.{Is, Wrong}
 use Rattle.script.specs.declared.Command.{Command}
+use Rattle.script.specs.declared.Command.the-variants.{Burst}
 use Rattle.script.specs.declared.Call.{Call}
-use Rattle.script.specs.Calls.{noCall, given, alone, withOne, withTwo, callOf}
-use Rattle.words.specs.Words.{spaced, first, rest}
+use Rattle.script.specs.Calls.{noCall, given, alone, withOne, withTwo, withMore, callOf}
+use Rattle.forms.specs.Numbers.{decimal}
+use Rattle.pair_words.specs.PairWords.{pairsBehind}
+use Rattle.words.specs.Words.{characters, is, spaced, first, rest}
 
 -- ---- a command with its numbers
 
@@ -45,6 +48,22 @@ module _ (s r : Bool) (x a b : Call) (is : r ≡ s) where
   pub not-named : r ≡ false → x ≡ b → x ≡ (if s then a else b)
   not-named t e = rw (← is, t) e
 
+-- ---- a line of three words or more
+
+module _ (name a words : List ℕ) (r : Call) (b : Bool) (is-it : b ≡ is name (characters "burst")) where
+  pub more-burst : (x y : Number) → b ≡ true → x ≡ decimal a 66 → y ≡ pairsBehind words → r ≡ given Burst x y → r ≡ withMore name a words
+  unfolding withMore
+  more-burst x y t e k h = rw (← is-it, t, ← e, ← k) h
+
+  module _ (t : b ≡ false) (s : Bool) (e : s ≡ spaced words) where
+    pub more-none : s ≡ true → r ≡ noCall → r ≡ withMore name a words
+    unfolding withMore
+    more-none t₂ h = rw (← is-it, t, ← e, t₂) h
+
+    pub more-two : s ≡ false → r ≡ withTwo name a words → r ≡ withMore name a words
+    unfolding withMore
+    more-two t₂ h = rw (← is-it, t, ← e, t₂) h
+
 -- ---- a line
 
 pub line-long : (line : List ℕ) (r : Call) → 4096 < length line → r ≡ noCall → r ≡ callOf line
@@ -62,31 +81,17 @@ module _ (line : List ℕ) (r : Call) (s : Bool) (l : length line ≤ 4096) (is 
     line-one name t₂ n h =
         rw (le-ltb 4096 (length line) l, said-not (spaced line) s false is t, ← cut, said-not (spaced behind) s₂ true is₂ t₂, ← n) h
 
-    module _ (last : List ℕ) (t₂ : not s₂ ≡ false) (cut₂ : last ≡ rest behind) (s₃ : Bool) (is₃ : s₃ ≡ spaced last) where
-      pub line-two : (name word : List ℕ) → not s₃ ≡ true → name ≡ first line → word ≡ first behind → r ≡ withTwo name word last → r ≡ callOf line
-      unfolding callOf
-      line-two name word t₃ n w h =
-          rw (
-            le-ltb 4096 (length line) l,
-            said-not (spaced line) s false is t,
-            ← cut,
-            said-not (spaced behind) s₂ false is₂ t₂,
-            ← cut₂,
-            said-not (spaced last) s₃ true is₃ t₃,
-            ← n,
-            ← w,
-          )
-          h
-
-      pub line-more : not s₃ ≡ false → r ≡ noCall → r ≡ callOf line
-      unfolding callOf
-      line-more t₃ h =
-          rw (
-            le-ltb 4096 (length line) l,
-            said-not (spaced line) s false is t,
-            ← cut,
-            said-not (spaced behind) s₂ false is₂ t₂,
-            ← cut₂,
-            said-not (spaced last) s₃ false is₃ t₃,
-          )
-          h
+    pub line-more : (name word words : List ℕ) → not s₂ ≡ false → name ≡ first line → word ≡ first behind → words ≡ rest behind → r ≡ withMore name word words
+        → r ≡ callOf line
+    unfolding callOf
+    line-more name word words t₂ n w cut₂ h =
+        rw (
+          le-ltb 4096 (length line) l,
+          said-not (spaced line) s false is t,
+          ← cut,
+          said-not (spaced behind) s₂ false is₂ t₂,
+          ← n,
+          ← w,
+          ← cut₂,
+        )
+        h

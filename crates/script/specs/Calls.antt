@@ -16,6 +16,7 @@ use Rattle.script.specs.declared.Command.the-variants.{
   Line,
   Grant,
   Frame,
+  Burst,
   Send,
   Run,
   Show,
@@ -29,6 +30,7 @@ use Rattle.script.specs.declared.Command.the-variants.{
 use Rattle.script.specs.declared.Call.{Call}
 use Rattle.forms.specs.Numbers.{hexadecimal, decimal}
 use Rattle.forms.specs.Pairs.{byteCount}
+use Rattle.pair_words.specs.PairWords.{pairsBehind}
 use Rattle.words.specs.Words.{characters, is, spaced, first, rest}
 
 -- a line that is no call
@@ -79,11 +81,17 @@ withTwo name a b =
     if is name (characters "peek") then given Peek (hexadecimal a) (decimal b 65_536) else
     noCall
 
+-- of three or more: only `burst` takes more, the pairs behind its BYTES, and its ROOM is "at most 66"
+unfoldable pub withMore : List ℕ → List ℕ → List ℕ → Call
+withMore name a words =
+    if is name (characters "burst") then given Burst (decimal a 66) (pairsBehind words) else
+    if spaced words then noCall else
+    withTwo name a words
+
 -- a line of at most 4,096 characters, by its words
 unfoldable pub callOf : List ℕ → Call
 callOf line =
     if ltb 4096 (length line) then noCall else
     if not (spaced line) then alone line else
     if not (spaced (rest line)) then withOne (first line) (rest line) else
-    if not (spaced (rest (rest line))) then withTwo (first line) (first (rest line)) (rest (rest line)) else
-    noCall
+    withMore (first line) (first (rest line)) (rest (rest line))

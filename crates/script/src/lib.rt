@@ -1,10 +1,11 @@
 // A line of the bench console as a call: the commands, each with its words and limits (docs/CONSOLE.md).
 ghost use mathlib.Core.Path.{_≡_};
-ghost use Rattle.script.specs.Calls.{noCall, given, alone, withOne, withTwo, callOf};
+ghost use Rattle.script.specs.Calls.{noCall, given, alone, withOne, withTwo, withMore, callOf};
 use forms::numbers::Number;
 use forms::numbers::decimal;
 use forms::numbers::hexadecimal;
 use forms::pairs::byte_count;
+use pair_words::pairs_behind;
 use words::first;
 use words::is;
 use words::rest;
@@ -19,6 +20,7 @@ pub enum Command {
     Line,
     Grant,
     Frame,
+    Burst,
     Send,
     Run,
     Show,
@@ -31,7 +33,7 @@ pub enum Command {
 }
 
 // A command with its numbers in the line's order, 0 where it takes fewer. Bytes stay in the line, and their number stands
-// here.
+// here; of `burst` the pairs stay there, and theirs does.
 pub struct Call {
     pub command: Command,
     pub a: u32,
@@ -46,6 +48,9 @@ const MEMORY: u32 = 65_544;
 
 // The largest output, and the most bytes that one call shows.
 const ROOM: u32 = 65_536;
+
+// The longest answer list of a burst.
+const ANSWERS: u32 = 66;
 
 fn no_call() -> Call
     ensures { λ r. ⌜ r ≡ noCall ⌝ }
@@ -142,6 +147,19 @@ fn with_two(name: &[u8], a: &[u8], b: &[u8]) -> Call
     no_call()
 }
 
+// A line of three or more.
+fn with_more(name: &[u8], a: &[u8], words: &[u8]) -> Call
+    ensures { λ r. ⌜ r ≡ withMore (now (name .entry)) (now (a .entry)) (now (words .entry)) ⌝ }
+{
+    if is(name, b"burst") {
+        return given(Command::Burst, decimal(a, ANSWERS), pairs_behind(words));
+    }
+    if spaced(words) {
+        return no_call();
+    }
+    with_two(name, a, words)
+}
+
 // The call that a line names.
 pub fn call_of(line: &[u8]) -> Call
     ensures { λ r. ⌜ r ≡ callOf (now (line .entry)) ⌝ }
@@ -156,9 +174,5 @@ pub fn call_of(line: &[u8]) -> Call
     if !spaced(behind) {
         return with_one(first(line), behind);
     }
-    let last = rest(behind);
-    if !spaced(last) {
-        return with_two(first(line), first(behind), last);
-    }
-    no_call()
+    with_more(first(line), first(behind), rest(behind))
 }

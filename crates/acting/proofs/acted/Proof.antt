@@ -1,6 +1,6 @@
 -- `acting::acted` meets its contract. Assumes nothing.
 use borrow.Author.Needs.{needs}
-use Rattle.acting.proofs.Laws.{new-called, lend-called, write-called, grant-called, frame-called, send-called, run-called, poke-called}
+use Rattle.acting.proofs.Laws.{new-called, lend-called, write-called, grant-called, frame-called, burst-called, send-called, run-called, poke-called}
 use Rattle.acting.proofs.acted.Statement.{statement}
 use Rattle.acting.proofs.acted.Tie as tie
 
@@ -28,6 +28,8 @@ acted-spec =
     (λ c κs. search needs)
     (λ c. search needs)
     (λ c κs. search needs)
+    (λ c. search needs)
+    (λ c κs. search needs)
     (λ c κs. search needs)
     (λ c κs. search needs)
     (λ c. search needs)
@@ -43,6 +45,9 @@ acted-spec =
     (λ c. search needs)
     (λ c. search needs)
     (λ c. search frame-called)
+    (λ c. search needs)
+    (λ c. search needs)
+    (λ c. search burst-called)
     (λ c. search needs)
     (λ c. search needs)
     (λ c. search send-called)

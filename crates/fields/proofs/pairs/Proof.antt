@@ -7,7 +7,7 @@ use lib.ListN.{length, drop}
 use Rattle.text.specs.Text.{put}
 use Rattle.fields.specs.Fields.{pairs}
 use Rattle.text.proofs.Laws.{put-within}
-use Rattle.fields.proofs.Laws.{pairs-turn, pairs-end}
+use Rattle.fields.proofs.Laws.{each-turn, each-end}
 use Rattle.fields.proofs.pairs.Statement.{statement}
 use Rattle.fields.proofs.pairs.Tie as tie
 
@@ -34,13 +34,13 @@ loop-less : tie.Need-loop-less Inv-loop μ-loop
 loop-less c = omega arith
 
 loop-again : tie.Need-loop-again Inv-loop μ-loop
-loop-again c = (search pairs-turn, (omega arith, (omega arith, search put-within)))
+loop-again c = (search each-turn, (omega arith, (omega arith, search put-within)))
 
 same-length : tie.Need-same-length Inv-loop μ-loop
 same-length c = search needs
 
 returns : tie.Need-returns Inv-loop μ-loop
-returns c = search pairs-end
+returns c = search each-end
 
 pub pairs-spec : {M : Type 1} → statement M
 pairs-spec =

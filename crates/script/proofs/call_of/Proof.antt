@@ -1,6 +1,6 @@
 -- `script::call_of` meets its contract. Assumes nothing.
 use borrow.Author.Needs.{needs}
-use Rattle.script.proofs.CallLaws.{line-long, line-alone, line-one, line-two, line-more}
+use Rattle.script.proofs.CallLaws.{line-long, line-alone, line-one, line-more}
 use Rattle.script.proofs.call_of.Statement.{statement}
 use Rattle.script.proofs.call_of.Tie as tie
 
@@ -21,8 +21,5 @@ call-of-spec =
     (λ c κs. search needs)
     (λ c κs. search needs)
     (λ c κs. search needs)
-    (λ c κs. search needs)
-    (λ c κs. search needs)
-    (λ c. search line-two)
     (λ c κs. search needs)
     (λ c. search line-more))
