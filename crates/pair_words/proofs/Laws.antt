@@ -6,6 +6,7 @@ use Prim.Native.Nat.{ℕ, suc, _+_, _-_}
 use native.Mathlib.Numerals.{add-one}
 use native.Mathlib.Omega.{arith}
 use lib.ListN.{set}
+use Rattle.rules.specs.Choice.{if_then_else_}
 use Rattle.rules.proofs.Choices.{said-not}
 use Rattle.memory.specs.Memory.{store}
 use Rattle.words.specs.Words.{spaced, first, rest}
@@ -40,33 +41,16 @@ module _ (left n : ℕ) (s : List ℕ) (z : left ≡ 0 → ⊥) (x : Number) (e 
     pairs-length t₂ = rw (one-less left z, ← e, said-not (right x) r false is t, ← cut, ← e₂, said-not (right x₂) r₂ true is₂ t₂)
 
     module _ (t₂ : not r₂ ≡ false) (q : Bool) (is₃ : q ≡ spaced s₂) where
-      pub pairs-last : not q ≡ true → Is (n + 1) ≡ pairsFrom left n s
+      -- both are right
+      a-pair : (y : Number) → y ≡ (if not (spaced s₂) then Is (n + 1) else pairsFrom (left - 1) (n + 1) (rest s₂)) → y ≡ pairsFrom left n s
       unfolding pairsFrom
-      pairs-last t₃ =
-          rw (
-            one-less left z,
-            ← e,
-            said-not (right x) r false is t,
-            ← cut,
-            ← e₂,
-            said-not (right x₂) r₂ false is₂ t₂,
-            said-not (spaced s₂) q true is₃ t₃,
-          )
+      a-pair y h = rw (one-less left z, ← e, said-not (right x) r false is t, ← cut, ← e₂, said-not (right x₂) r₂ false is₂ t₂) h
+
+      pub pairs-last : not q ≡ true → Is (n + 1) ≡ pairsFrom left n s
+      pairs-last t₃ = a-pair (Is (n + 1)) (rw (said-not (spaced s₂) q true is₃ t₃))
 
       pub pairs-more : (s₃ : List ℕ) (y : Number) → not q ≡ false → s₃ ≡ rest s₂ → y ≡ pairsFrom (left - 1) (n + 1) s₃ → y ≡ pairsFrom left n s
-      unfolding pairsFrom
-      pairs-more s₃ y t₃ cut₂ h =
-          rw (
-            one-less left z,
-            ← e,
-            said-not (right x) r false is t,
-            ← cut,
-            ← e₂,
-            said-not (right x₂) r₂ false is₂ t₂,
-            said-not (spaced s₂) q false is₃ t₃,
-            ← cut₂,
-          )
-          h
+      pairs-more s₃ y t₃ cut₂ h = a-pair y (rw (said-not (spaced s₂) q false is₃ t₃, ← cut₂) h)
 
 -- ---- the pairs behind BYTES
 
