@@ -1,6 +1,7 @@
 /*
  * The contestants of the benchmark: the proved library (libspeed.a) and the
- * plain C model (model.c). All have the same two functions.
+ * plain C model (model.c). All have the same two functions. A second proved
+ * library (libburst_speed.a) has a burst and single receives.
  *
  * `memory` is the window, at address 0, of at least 16 bytes. Each call makes a
  * new device over it: station 02-00-00-00-00-01, both engines started at the
@@ -33,7 +34,7 @@ struct contestant {
 receive_rounds speed_receive;
 send_rounds speed_send;
 
-/* The proved library alone. The frame `rounds` times with no grant in between;
+/* libburst_speed.a. The frame `rounds` times with no grant in between;
  * returns how often it was taken. */
 receive_rounds speed_singles;
 

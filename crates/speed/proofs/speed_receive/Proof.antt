@@ -6,7 +6,7 @@ use native.Mathlib.Omega.{arith}
 use borrow.Author.Needs.{needs}
 use lib.ListN.{length}
 use Rattle.speed.specs.Rounds.{receiveRounds}
-use Rattle.speed.proofs.Laws.{rounds-turn, rounds-end}
+use Rattle.timing.proofs.Laws.{rounds-turn, rounds-end}
 use Rattle.speed.proofs.speed_receive.Statement.{statement}
 use Rattle.speed.proofs.speed_receive.Tie as tie
 

@@ -1,8 +1,8 @@
 use native.Mathlib.Omega.{arith}
 use Rattle.rules.proofs.Choices.{choices}
-use Rattle.speed.specs.Rounds.{passed}
-use Rattle.speed.proofs.passed.Statement.{statement}
-use Rattle.speed.proofs.passed.Tie as tie
+use Rattle.timing.specs.Timing.{passed}
+use Rattle.timing.proofs.passed.Statement.{statement}
+use Rattle.timing.proofs.passed.Tie as tie
 
 pub passed-spec : {M : Type 1} → statement M
 unfolding passed

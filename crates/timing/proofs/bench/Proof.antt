@@ -1,7 +1,7 @@
 use borrow.Author.Needs.{needs}
-use Rattle.speed.proofs.Laws.{bench-is}
-use Rattle.speed.proofs.bench.Statement.{statement}
-use Rattle.speed.proofs.bench.Tie as tie
+use Rattle.timing.proofs.Laws.{bench-is}
+use Rattle.timing.proofs.bench.Statement.{statement}
+use Rattle.timing.proofs.bench.Tie as tie
 
 pub bench-spec : {M : Type 1} → statement M
 bench-spec =

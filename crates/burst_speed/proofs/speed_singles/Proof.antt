@@ -1,14 +1,14 @@
--- `speed::speed_singles` meets its contract. The loop's invariant: the rounds left, run from here, give what all of them give.
+-- `burst_speed::speed_singles` meets its contract. The loop's invariant: the rounds left, run from here, give what all of them give.
 -- Assumes nothing.
 use mathlib.Core.Path.{_≡_, refl, sym, _∙_}
 use Prim.Native.Nat.{_+_, _≤_}
 use native.Mathlib.Omega.{arith}
 use borrow.Author.Needs.{needs}
 use lib.ListN.{length}
-use Rattle.speed.specs.Rounds.{singleReceives}
-use Rattle.speed.proofs.Laws.{rounds-turn, rounds-end}
-use Rattle.speed.proofs.speed_singles.Statement.{statement}
-use Rattle.speed.proofs.speed_singles.Tie as tie
+use Rattle.burst_speed.specs.Bursts.{singleReceives}
+use Rattle.timing.proofs.Laws.{rounds-turn, rounds-end}
+use Rattle.burst_speed.proofs.speed_singles.Statement.{statement}
+use Rattle.burst_speed.proofs.speed_singles.Tie as tie
 
 abbrev Inv-loop : tie.InvT-loop
 Inv-loop memory₀ frame rounds device₀ taken₀ left₀ memory device taken left =
