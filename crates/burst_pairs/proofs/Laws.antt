@@ -27,7 +27,7 @@ pub begun-done : (n k : ℕ) (d : Enet) (r : Bool) → r ≡ refuses n k → r �
 begun-done n k d r e t = rw (← e, t)
 
 pub turns-le : (n k : ℕ) → turns n k ≤ n
-turns-le n k = by-test (λ (x : ℕ). x ≤ n) (refuses n k) 0 n (λ _. omega arith) (λ _. omega arith)
+turns-le n k = by-test (λ (x : ℕ). x ≤ n) (refuses n k) _ _ (λ _. omega arith) (λ _. omega arith)
 
 -- ---- a turn of the walk, its end, and the walk as a whole
 
