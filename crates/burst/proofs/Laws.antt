@@ -12,7 +12,7 @@ use Rattle.enet.specs.declared.Enet.{Enet}
 use Rattle.enet.specs.declared.Answered.{Answered}
 use Rattle.pair.specs.declared.Pair.{Pair}
 use Rattle.pair.specs.Turn.{bursting}
-use Rattle.burst.specs.Burst.{receives, refuses, refused, burst, pairsOf, uneven, burstOf}
+use Rattle.burst.specs.Burst.{refuses, refused, burst, pairsOf, uneven, burstOf}
 use Rattle.burst.specs.Turns.{turnsOf}
 use Rattle.burst.proofs.Turns.{length-receives, turns-receive}
 

@@ -29,9 +29,10 @@ use Rattle.burst.specs.Burst.{receives, refuses, burst, pairsOf, uneven, burstO
 use Rattle.burst.specs.Taken.{taken, framesInside, answersInside}
 use Rattle.calls.specs.Calls.{Bench, Call, grantCall, burstCall, call}
 use Rattle.links.specs.Links.{follow}
-use Rattle.history.specs.Steps.{Step, publicCall, framesOf, Progress, begin, afterSteps}
-use Rattle.history.specs.Start.{inOrder, Obeys}
-use Rattle.history.specs.Claim.{Lost, LiesWhole, deliveredBy, Claim}
+use Rattle.steps.specs.Steps.{Step, publicCall, framesOf, Progress, begin, afterSteps}
+use Rattle.steps.specs.Start.{inOrder, Obeys}
+use Rattle.whole.specs.Whole.{LiesWhole}
+use Rattle.history.specs.Claim.{Lost, deliveredBy, Claim}
 use Rattle.history.proofs.Theorem.{demand3}
 use Rattle.examples.proofs.Examples.{first, ring, frame, granting, ring-of-two}
 

@@ -7,14 +7,15 @@ use lib.ListN.{length}
 use Rattle.calls.specs.Calls.{Bench, looks, registerWrite, grantCall, receiveCall, burstCall, sendCall, stepRun}
 use Rattle.inputs.specs.Receives.{afterReceives, receiveAnswers}
 use Rattle.inputs.proofs.Receives.{single-receives}
-use Rattle.history.specs.Steps.{Step, publicCall, firmwareWrite, step, grantsOf, framesOf, answersOf, countedAll, Progress, afterStep}
-use Rattle.history.specs.Start.{Permitted}
+use Rattle.steps.specs.Steps.{Step, publicCall, firmwareWrite, step, grantsOf, framesOf, answersOf, countedAll, Progress, afterStep}
+use Rattle.steps.specs.Start.{Permitted}
 use Rattle.history.specs.Claim.{Met}
-use Rattle.history.proofs.Places.{RingSound}
-use Rattle.history.proofs.Invariant.{Inv, InvP}
+use Rattle.steps.proofs.Places.{RingSound}
+use Rattle.steps.proofs.Invariant.{InvP}
 use Rattle.history.proofs.Counts.{Moved, moved-none}
-use Rattle.history.proofs.Steps.{look-keeps, write-keeps, grant-keeps, send-keeps, run-keeps, firmware-keeps}
-use Rattle.history.proofs.Frames.{passes, InvB, all-kept, all-moved, MetIn, all-met}
+use Rattle.steps.proofs.Steps.{look-keeps, write-keeps, grant-keeps, send-keeps, run-keeps, firmware-keeps}
+use Rattle.steps.proofs.Arrivals.{passes, InvB}
+use Rattle.history.proofs.Frames.{all-kept, all-moved, MetIn, all-met}
 
 -- what a step does: it keeps the invariant, the answers of its frames follow from the grants before them, and each frame meets
 -- what demand 3 says

@@ -1,0 +1,1 @@
+// Which numbers each call answers: specs/, proved in proofs/. No code.

@@ -1,0 +1,9 @@
+pub mod Places
+pub mod Held
+pub mod Invariant
+pub mod Now
+pub mod Same
+pub mod Grants
+pub mod Steps
+pub mod Arrivals
+pub mod Begin
