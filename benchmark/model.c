@@ -59,6 +59,8 @@ struct enet {
     uint32_t mcr;
     uint32_t mah;
     uint32_t mal;
+    uint32_t mcha;
+    uint32_t mcla;
     struct engine rx;
     struct engine tx;
 };
@@ -103,9 +105,21 @@ static bool in_window(const struct enet *device, uint32_t address, uint32_t leng
            (uint64_t)address + length <= (uint64_t)device->base + device->window;
 }
 
+/* The check register, not complemented. It is kept the other way round: its lowest
+ * bit is the coefficient of x^31, which selects the hash register. */
+static bool hash_accepts(const struct enet *device, const uint8_t *destination)
+{
+    uint32_t x = ~check_sequence(destination, 6);
+    uint32_t table = x & 1 ? device->mcha : device->mcla;
+    uint32_t bit = (x >> 1 & 1) << 4 | (x >> 2 & 1) << 3 | (x >> 3 & 1) << 2 | (x >> 4 & 1) << 1 | (x >> 5 & 1);
+
+    return table >> bit & 1;
+}
+
 static bool accepts(const struct enet *device, const uint8_t *frame)
 {
     static const uint8_t broadcast[6] = {0xFF, 0xFF, 0xFF, 0xFF, 0xFF, 0xFF};
+    uint32_t mode = device->mcr >> 17 & 7;
     uint8_t station[8];
 
     if (device->mcr >> 31)
@@ -113,7 +127,7 @@ static bool accepts(const struct enet *device, const uint8_t *frame)
     if (memcmp(frame, broadcast, 6) == 0)
         return true;
     if (frame[0] & 1)
-        return (device->mcr >> 17 & 7) == 5;
+        return mode == 1 ? hash_accepts(device, frame) : mode == 5;
     store(station, device->mal);
     store(station + 4, device->mah);
     return memcmp(frame, station, 6) == 0;

@@ -12,7 +12,7 @@ use Rattle.enet.specs.declared.Enet.{Enet}
 use Rattle.enet.specs.declared.Answered.{Answered}
 use Rattle.enet.specs.declared.Value.{Value}
 use Rattle.registers.specs.declared.Register.{Register}
-use Rattle.registers.specs.declared.Register.the-variants.{Ier, Isr, RxStart, RxNext, TxStart, TxNext, Mcr, Mah, Mal, Unmodelled}
+use Rattle.registers.specs.declared.Register.the-variants.{Ier, Isr, RxStart, RxNext, TxStart, TxNext, Mcr, Mah, Mal, Mcha, Mcla, Unmodelled}
 use Rattle.registers.specs.Access.{registerAt, readNumber, valueOf}
 use Rattle.registers.specs.Registers as registers
 use Rattle.registers.specs.Access as access
@@ -40,6 +40,8 @@ register-read P d TxNext r2 r0 = r0
 register-read P d Mcr r2 r0 = r0
 register-read P d Mah r2 r0 = r0
 register-read P d Mal r2 r0 = r0
+register-read P d Mcha r2 r0 = r0
+register-read P d Mcla r2 r0 = r0
 register-read P d Unmodelled r2 r0 = r2
 
 pub by-read : (P : Value → Type 0) (d : Enet) (offset : ℕ)
@@ -71,6 +73,8 @@ module _ (P : Answered → Type 0) (d : Enet) (v : ℕ)
   by-register Mcr r0 = r0
   by-register Mah r0 = r0
   by-register Mal r0 = r0
+  by-register Mcha r0 = r0
+  by-register Mcla r0 = r0
   by-register Unmodelled r0 = r2
 
   pub by-write : (offset : ℕ) → P (record { number = 0; device = withRegisters d (written (d .registers) (registerAt offset) v) })

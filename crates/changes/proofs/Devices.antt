@@ -9,7 +9,7 @@ use Rattle.descriptor.specs.Descriptor.{nextEnabled}
 use Rattle.engine.specs.declared.Engine.{Engine}
 use Rattle.enet.specs.declared.Enet.{Enet}
 use Rattle.registers.specs.declared.Register.{Register}
-use Rattle.registers.specs.declared.Register.the-variants.{Ier, Isr, RxStart, RxNext, TxStart, TxNext, Mcr, Mah, Mal, Unmodelled}
+use Rattle.registers.specs.declared.Register.the-variants.{Ier, Isr, RxStart, RxNext, TxStart, TxNext, Mcr, Mah, Mal, Mcha, Mcla, Unmodelled}
 use Rattle.enet.specs.Device.{withRegisters, withRx, withTx, raised, rxStopped, txStopped}
 use Rattle.engine.specs.Engine.{ledTo, stopped, dmaEnabled, startFetch, startWritten}
 use Rattle.receiving.specs.Receiving.{rxAdvanced}
@@ -38,6 +38,8 @@ register-same TxNext d = refl
 register-same Mcr d = refl
 register-same Mah d = refl
 register-same Mal d = refl
+register-same Mcha d = refl
+register-same Mcla d = refl
 register-same Unmodelled d = refl
 
 start-next : (e : Engine) (v : ℕ) → startWritten e v .next ≡ e .next
@@ -61,6 +63,8 @@ register-written TxNext d v = refl
 register-written Mcr d v = refl
 register-written Mah d v = refl
 register-written Mal d v = refl
+register-written Mcha d v = refl
+register-written Mcla d v = refl
 register-written Unmodelled d v = refl
 
 pub write-parts : (b : Bench) (address value : ℕ)

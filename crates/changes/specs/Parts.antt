@@ -4,12 +4,13 @@ use mathlib.Core.Path.{_≡_}
 use mathlib.Core.Bool.{true}
 use mathlib.Core.List.{List, [], _∷_}
 use lib.Bits.{bitOr}
+use Rattle.filter.specs.declared.Filter.{Filter}
+use Rattle.filter.specs.Filter.{withMcr, withMah, withMal, withMcha, withMcla}
 use Rattle.engine.specs.declared.Engine.{Engine}
 use Rattle.enet.specs.declared.Enet.{Enet}
 use Rattle.registers.specs.declared.Register.{Register}
-use Rattle.registers.specs.declared.Register.the-variants.{Ier, Isr, RxStart, RxNext, TxStart, TxNext, Mcr, Mah, Mal, Unmodelled}
+use Rattle.registers.specs.declared.Register.the-variants.{Ier, Isr, RxStart, RxNext, TxStart, TxNext, Mcr, Mah, Mal, Mcha, Mcla, Unmodelled}
 use Rattle.registers.specs.Registers.{txCurrDone, txDone, rxCurrDone, rxDone, packetLost}
-use Rattle.registers.specs.Registers as registers
 use Rattle.registers.specs.Registers.{withStatus, withEnable, withFilter}
 use Rattle.engine.specs.Engine.{nextWritten}
 use Rattle.enet.specs.Device.{withRegisters, withRx, withTx}
@@ -24,8 +25,8 @@ abbrev pub statusOf : Enet → Enet → Enet
 statusOf d e = withRegisters d (withStatus (d .registers) (e .registers .isr))
 
 -- d with these filter registers
-abbrev pub filterOf : Enet → ℕ → ℕ → ℕ → Enet
-filterOf d mcr mah mal = withRegisters d (withFilter (d .registers) (registers.filterOf mcr mah mal))
+abbrev pub filtered : Enet → Filter → Enet
+filtered d f = withRegisters d (withFilter (d .registers) f)
 
 -- a register write changes its register, and a start write whether its engine runs and its place: d with these of e
 abbrev pub registerOf : Register → Enet → Enet → Enet
@@ -35,9 +36,11 @@ registerOf RxStart d e = withRx d (nextWritten (e .registers .rx) (d .registers 
 registerOf RxNext d e = withRx d (nextWritten (d .registers .rx) (e .registers .rx .next))
 registerOf TxStart d e = withTx d (nextWritten (e .registers .tx) (d .registers .tx .next))
 registerOf TxNext d e = withTx d (nextWritten (d .registers .tx) (e .registers .tx .next))
-registerOf Mcr d e = filterOf d (e .registers .filter .mcr) (d .registers .filter .mah) (d .registers .filter .mal)
-registerOf Mah d e = filterOf d (d .registers .filter .mcr) (e .registers .filter .mah) (d .registers .filter .mal)
-registerOf Mal d e = filterOf d (d .registers .filter .mcr) (d .registers .filter .mah) (e .registers .filter .mal)
+registerOf Mcr d e = filtered d (withMcr (d .registers .filter) (e .registers .filter .mcr))
+registerOf Mah d e = filtered d (withMah (d .registers .filter) (e .registers .filter .mah))
+registerOf Mal d e = filtered d (withMal (d .registers .filter) (e .registers .filter .mal))
+registerOf Mcha d e = filtered d (withMcha (d .registers .filter) (e .registers .filter .mcha))
+registerOf Mcla d e = filtered d (withMcla (d .registers .filter) (e .registers .filter .mcla))
 registerOf Unmodelled d e = d
 
 -- an engine that may have stopped or moved: its registers stay

@@ -11,10 +11,10 @@ use Rattle.address.specs.Address.{apart, aligned, placeOf}
 use Rattle.descriptor.specs.Descriptor.{count, nextEnabled, start, nextWord, next}
 use Rattle.packet_status.specs.PacketStatus.{packetStatus, granted, withPacketStatus}
 use Rattle.chain.specs.Buffer.{bytesFault, bufferFault}
-use Rattle.fcs.specs.Polynomial.{generator, remainder, checkBits}
+use Rattle.fcs.specs.Polynomial.{generator, remainder, registerBits, checkBits}
 use Rattle.fcs.specs.CheckSequence.{checkNumber, checkSequence, checkRight}
 use Rattle.frame.specs.Length.{lengthAllowed}
-use Rattle.frame.specs.Address.{accepts}
+use Rattle.filter.specs.Address.{accepts}
 use Rattle.frame.specs.Frame.{frameNumber}
 use Rattle.receiving.specs.Receiving.{rxRefused, rxAdvanced, receiveNumber, delivered}
 use Rattle.engine.specs.Engine.{startWritten}
@@ -98,7 +98,7 @@ pub a-burst : BurstExample
 unfolding
     lent aligned inWindow apart placeOf follow
     count nextEnabled start nextWord next packetStatus granted withPacketStatus bufferFault bytesFault word wordBytes store
-    frame other frameNumber lengthAllowed accepts checkRight checkSequence checkNumber checkBits remainder generator
+    frame other frameNumber lengthAllowed accepts checkRight checkSequence checkNumber checkBits registerBits remainder generator
     receive receiving.receive receiveAt receiveNumber chainNumber rxRefused delivered rxAdvanced
     grant plain.grant grantNumber holdsDescriptor startWritten afterSteps deliveredBy
     passes bytesOf received receives refuses burst pairsOf uneven burstOf taken framesInside answersInside

@@ -9,12 +9,11 @@ use native.Mathlib.Numerals.{add-one}
 use native.Mathlib.Omega.{arith}
 use lib.Arith.{bin-ind, lt-one}
 use lib.Bits.{bitXor, xor-shr, xor-mod, xor-zero-r, xor-shifted, xor-comm}
-use lib.Dec.{eqb}
 use lib.ListN.{length, getD, drop, drop-of-length-le}
 use lib.Seq.{drop-cons}
 use Rattle.fcs.specs.Polynomial.{lowBits, wireBits}
-use Rattle.fcs.specs.CheckSequence.{digit}
 use Rattle.fcs.specs.ShiftRegister.{reflected, step, bitsIn, byteIn}
+use Rattle.fcs.proofs.Register.{low-digit}
 
 -- ---- Exclusive or is associative
 
@@ -60,9 +59,6 @@ step-over y l =
     ap₂ (λ (x z : ℕ). bitXor x (z * reflected)) (xor-shr (y * 2) l 1 ∙ ap (λ (x : ℕ). bitXor x (l / 2)) (mul-div-cancel y (zero-lt-suc 1)))
     (xor-mod (y * 2) l 1 ∙ ap (λ (x : ℕ). bitXor x (l % 2)) (mul-mod-left y 2))
     ∙ xor-assoc y (l / 2) (l % 2 * reflected)
-
-low-digit : (v : ℕ) → digit (eqb (v % 2) 1) ≡ v % 2
-low-digit v = ⊎-elim (λ (p : v % 2 ≡ 0). rw p) (λ (p : v % 2 ≡ 1). rw p) (bit (v % 2) (omega arith))
 
 -- the low bit enters now, or the others with it
 bit-first : (r v : ℕ) → bitXor (step (bitXor r (v % 2))) (v / 2) ≡ step (bitXor r v)

@@ -1,16 +1,15 @@
 -- The ways out of the functions of this crate: one law for each, named by its fact, with the premises that the code has there. Assumes nothing.
-use mathlib.Core.Path.{_≡_, refl, ap, _∙_}
+use mathlib.Core.Path.{_≡_, refl}
 use mathlib.Core.Bool.{Bool, true, false, not}
 use mathlib.Core.List.{List}
-use Prim.Native.Nat.{ℕ, _%_, _≤_, _<_}
-use borrow.Author.Tests.{lt-ltb, le-ltb, le-leb, lt-leb, eq-eqb, ne-eqb}
+use Prim.Native.Nat.{ℕ, _≤_, _<_}
+use borrow.Author.Tests.{le-leb, lt-leb}
 use lib.Dec.{leb}
-use lib.ListN.{length, getD}
-use Rattle.rules.proofs.Choices.{if-yes, if-no, is-and, said, said-not}
-use Rattle.fcs.specs.Bytes.{same}
+use lib.ListN.{length}
+use Rattle.rules.proofs.Choices.{if-yes, if-no, is-and, said-not}
 use Rattle.fcs.specs.CheckSequence.{checkRight}
-use Rattle.frame.specs.declared.Filter.{Filter}
-use Rattle.frame.specs.Address.{destination, receiveAll, broadcast, allMulticast, stationAddress, accepts}
+use Rattle.filter.specs.declared.Filter.{Filter}
+use Rattle.filter.specs.Address.{accepts}
 use Rattle.frame.specs.Frame.{frameNumber}
 use Rattle.frame.specs.Length.{lengthAllowed}
 
@@ -23,42 +22,6 @@ from-64 n h = is-and (leb 64 n) (leb n 1518) (leb n 1518) (le-leb 64 n h) refl
 pub under-64 : (n : ℕ) → n < 64 → leb 64 n ≡ lengthAllowed n
 unfolding lengthAllowed
 under-64 n h = rw (lt-leb 64 n h)
-
--- ---- accepts: "Address rule, first that applies"
-
-pub short-refused : (filter : Filter) (f : List ℕ) → length f < 6 → false ≡ accepts filter f
-unfolding accepts
-short-refused filter f h = if-yes _ _ _ _ (lt-ltb (length f) 6 h) refl
-
-module _ (filter : Filter) (f : List ℕ) (all : Bool) (long : 6 ≤ length f) (a : all ≡ receiveAll (filter .mcr)) where
-  pub all-accepted : all ≡ true → true ≡ accepts filter f
-  unfolding accepts
-  all-accepted ya = if-no _ _ _ _ (le-ltb (length f) 6 long) (if-yes _ _ _ _ (said (receiveAll (filter .mcr)) all true a ya) refl)
-
-  module _ (every : Bool) (na : all ≡ false) (b : every ≡ same (destination f) broadcast) where
-    pub broadcast-accepted : every ≡ true → true ≡ accepts filter f
-    unfolding accepts
-    broadcast-accepted yb =
-        if-no _ _ _ _ (le-ltb (length f) 6 long) (
-        if-no _ _ _ _ (said (receiveAll (filter .mcr)) all false a na) (
-        if-yes _ _ _ _ (said (same (destination f) broadcast) every true b yb) refl))
-
-    pub group-by-mode : (r : Bool) → every ≡ false → getD f 0 0 % 2 ≡ 1 → r ≡ allMulticast (filter .mcr) → r ≡ accepts filter f
-    unfolding accepts
-    group-by-mode r nb g e =
-        if-no _ _ _ _ (le-ltb (length f) 6 long) (
-        if-no _ _ _ _ (said (receiveAll (filter .mcr)) all false a na) (
-        if-no _ _ _ _ (said (same (destination f) broadcast) every false b nb) (
-        if-yes _ _ _ _ (eq-eqb (getD f 0 0 % 2) 1 g) e)))
-
-    pub by-station : (station : List ℕ) (r : Bool) → every ≡ false → (getD f 0 0 % 2 ≡ 1 → ⊥)
-        → station ≡ stationAddress (filter .mah) (filter .mal) → r ≡ same (destination f) station → r ≡ accepts filter f
-    unfolding accepts
-    by-station station r nb g s e =
-        if-no _ _ _ _ (le-ltb (length f) 6 long) (
-        if-no _ _ _ _ (said (receiveAll (filter .mcr)) all false a na) (
-        if-no _ _ _ _ (said (same (destination f) broadcast) every false b nb) (
-        if-no _ _ _ _ (ne-eqb (getD f 0 0 % 2) 1 g) (e ∙ ap (same (destination f)) s))))
 
 -- ---- frame_number: rows 4, 5 and 6, in this order
 

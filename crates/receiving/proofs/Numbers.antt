@@ -8,7 +8,7 @@ use borrow.Author.Tests.{eqb-true}
 use lib.ListN.{length}
 use Rattle.rules.proofs.Choices.{by-test, by-number, said-yes, said-no, refused-by, passed-by}
 use Rattle.window.specs.Window.{lent}
-use Rattle.frame.specs.declared.Filter.{Filter}
+use Rattle.filter.specs.declared.Filter.{Filter}
 use Rattle.frame.specs.Frame.{frameNumber}
 use Rattle.frame.proofs.Passed.{passed-short}
 use Rattle.chain.specs.Chain.{chainNumber}

@@ -2,7 +2,7 @@
 ghost use mathlib.Core.Path.{_≡_};
 ghost use Rattle.receiving.specs.Receiving.{receiveNumberOf};
 use engine::Engine;
-use frame::Filter;
+use filter::Filter;
 
 // 11, 3, 4, 5, 6, 7 for the descriptor, 8, 7 for the buffer, or 0.
 pub(crate) fn number(

@@ -1,6 +1,6 @@
 // A register write: its number, and the registers that it leaves.
 ghost use mathlib.Core.Path.{_≡_};
-ghost use Rattle.register_write.specs.Write.{cleared, written, writeNumber, write};
+ghost use Rattle.register_write.specs.Write.{cleared, stored, writeNumber, write};
 use registers::Change;
 use registers::Register;
 use registers::Registers;
@@ -9,19 +9,19 @@ use registers::Registers;
 fn cleared(isr: u32, v: u32) -> u32
     ensures { λ s. ⌜ s ≡ cleared isr v ⌝ }
 {
-    isr & !(v & Registers::ISR_CLEARABLE)
+    isr & !v
 }
 
-// The registers after a write that is not refused.
-fn written(r: Registers, register: Register, v: u32) -> Registers
-    ensures { λ n. ⌜ n ≡ written r register v ⌝ }
+// The registers with what is kept of a value.
+fn stored(r: Registers, register: Register, v: u32) -> Registers
+    ensures { λ n. ⌜ n ≡ stored r register v ⌝ }
 {
     let mut next = r;
     let rx = r.rx;
     let tx = r.tx;
     match register {
         Register::Ier => {
-            next.ier = v & Registers::IER_WRITABLE;
+            next.ier = v;
             next
         }
         Register::Isr => {
@@ -30,38 +30,43 @@ fn written(r: Registers, register: Register, v: u32) -> Registers
             next
         }
         Register::RxStart => {
-            let e = rx.start_written(v & Registers::RXSTR_WRITABLE);
+            let e = rx.start_written(v);
             next.rx = e;
             next
         }
         Register::RxNext => {
-            let e = rx.next_written(v & Registers::RXNDAR_WRITABLE);
+            let e = rx.next_written(v);
             next.rx = e;
             next
         }
         Register::TxStart => {
-            let e = tx.start_written(v & Registers::TXSTR_WRITABLE);
+            let e = tx.start_written(v);
             next.tx = e;
             next
         }
         Register::TxNext => {
-            let e = tx.next_written(v & Registers::TXNDAR_WRITABLE);
+            let e = tx.next_written(v);
             next.tx = e;
             next
         }
         Register::Mcr => {
-            let mcr = v & Registers::MCR_WRITABLE;
-            next.filter.mcr = mcr;
+            next.filter.mcr = v;
             next
         }
         Register::Mah => {
-            let mah = v & Registers::MAH_WRITABLE;
-            next.filter.mah = mah;
+            next.filter.mah = v;
             next
         }
         Register::Mal => {
-            let mal = v & Registers::MAL_WRITABLE;
-            next.filter.mal = mal;
+            next.filter.mal = v;
+            next
+        }
+        Register::Mcha => {
+            next.filter.mcha = v;
+            next
+        }
+        Register::Mcla => {
+            next.filter.mcla = v;
             next
         }
         Register::Unmodelled => next,
@@ -90,6 +95,8 @@ fn write_number(receiving: bool, sending: bool, register: Register) -> u32
         Register::Mcr => answer::DONE,
         Register::Mah => answer::DONE,
         Register::Mal => answer::DONE,
+        Register::Mcha => answer::DONE,
+        Register::Mcla => answer::DONE,
         Register::Unmodelled => answer::REGISTER_NOT_MODELLED,
     }
 }
@@ -108,8 +115,9 @@ pub fn write(r: Registers, offset: u32, v: u32) -> Change
             registers: r,
         };
     }
+    let kept = writable::kept(register, v);
     Change {
         number: answer::DONE,
-        registers: written(r, register, v),
+        registers: stored(r, register, kept),
     }
 }

@@ -6,10 +6,10 @@ use Rattle.rules.specs.Choice.{if_then_else_}
 use Rattle.registers.specs.declared.Registers.{Registers}
 use Rattle.registers.specs.declared.Found.{Found}
 use Rattle.registers.specs.declared.Register.{Register}
-use Rattle.registers.specs.declared.Register.the-variants.{Ier, Isr, RxStart, RxNext, TxStart, TxNext, Mcr, Mah, Mal, Unmodelled}
+use Rattle.registers.specs.declared.Register.the-variants.{Ier, Isr, RxStart, RxNext, TxStart, TxNext, Mcr, Mah, Mal, Mcha, Mcla, Unmodelled}
 
 -- "Modelled: interrupt status and enable, receive and send start, receive and send next descriptor, MAC control, MAC
--- address high and low": by offset
+-- address high and low": by offset. 02, of the hash registers: "these registers leave row 2's reach"
 unfoldable pub registerAt : ℕ → Register
 registerAt offset =
     if eqb offset 0x04 then Ier else
@@ -21,6 +21,8 @@ registerAt offset =
     if eqb offset 0x400 then Mcr else
     if eqb offset 0x404 then Mah else
     if eqb offset 0x408 then Mal else
+    if eqb offset 0x40c then Mcha else
+    if eqb offset 0x410 then Mcla else
     Unmodelled
 
 -- what a register reads as
@@ -34,6 +36,8 @@ valueOf r TxNext = r .tx .next
 valueOf r Mcr = r .filter .mcr
 valueOf r Mah = r .filter .mah
 valueOf r Mal = r .filter .mal
+valueOf r Mcha = r .filter .mcha
+valueOf r Mcla = r .filter .mcla
 valueOf r Unmodelled = 0
 
 -- row 2, register not modelled: "value 0, nothing changed"
@@ -47,6 +51,8 @@ readNumber TxNext = 0
 readNumber Mcr = 0
 readNumber Mah = 0
 readNumber Mal = 0
+readNumber Mcha = 0
+readNumber Mcla = 0
 readNumber Unmodelled = 2
 
 unfoldable pub read : Registers → ℕ → Found

@@ -4,7 +4,8 @@ use Prim.Native.Nat.{ℕ}
 use mathlib.Core.Bool.{Bool, not}
 use lib.Dec.{eqb}
 use lib.Bits.{bitAnd, bitOr}
-use Rattle.frame.specs.declared.Filter.{Filter}
+use Rattle.filter.specs.declared.Filter.{Filter}
+use Rattle.filter.specs.Filter.{filterOf}
 use Rattle.engine.specs.declared.Engine.{Engine}
 use Rattle.engine.specs.Engine.{engineReset}
 use Rattle.registers.specs.declared.Registers.{Registers}
@@ -30,15 +31,11 @@ withRx r e = made (r .isr) (r .ier) (r .filter) e (r .tx)
 abbrev pub withTx : Registers → Engine → Registers
 withTx r e = made (r .isr) (r .ier) (r .filter) (r .rx) e
 
--- the filter registers, part by part
-abbrev pub filterOf : ℕ → ℕ → ℕ → Filter
-filterOf mcr mah mal = record { mcr = mcr; mah = mah; mal = mal }
-
 -- ---- reset
 
 -- "Offsets, reset values and read-only bits are those of chapter 8"
 abbrev pub reset : Registers
-reset = made 0x0005_0001 0 (filterOf 0 0x0000_ffff 0xffff_ffff) (engineReset 0 0) (engineReset 0 0)
+reset = made 0x0005_0001 0 (filterOf 0 0x0000_ffff 0xffff_ffff 0 0) (engineReset 0 0) (engineReset 0 0)
 
 -- ---- the status bits that the base raises, as chapter 8 numbers them
 

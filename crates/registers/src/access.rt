@@ -20,6 +20,8 @@ impl Register {
             Registers::MCR => Register::Mcr,
             Registers::MAH => Register::Mah,
             Registers::MAL => Register::Mal,
+            Registers::MCHA => Register::Mcha,
+            Registers::MCLA => Register::Mcla,
             _ => Register::Unmodelled,
         }
     }
@@ -38,6 +40,8 @@ impl Register {
             Register::Mcr => answer::DONE,
             Register::Mah => answer::DONE,
             Register::Mal => answer::DONE,
+            Register::Mcha => answer::DONE,
+            Register::Mcla => answer::DONE,
             Register::Unmodelled => answer::REGISTER_NOT_MODELLED,
         }
     }
@@ -61,6 +65,8 @@ impl Registers {
             Register::Mcr => filter.mcr,
             Register::Mah => filter.mah,
             Register::Mal => filter.mal,
+            Register::Mcha => filter.mcha,
+            Register::Mcla => filter.mcla,
             Register::Unmodelled => 0,
         }
     }

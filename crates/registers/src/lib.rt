@@ -4,7 +4,7 @@ mod access;
 ghost use mathlib.Core.Path.{_≡_};
 ghost use Rattle.registers.specs.Registers.{reset, interruptLine};
 use engine::Engine;
-use frame::Filter;
+use filter::Filter;
 
 // Interrupt status and enable, the filter registers, and an engine for each direction with its two registers.
 pub struct Registers {
@@ -26,6 +26,8 @@ pub enum Register {
     Mcr,
     Mah,
     Mal,
+    Mcha,
+    Mcla,
     Unmodelled,
 }
 
@@ -61,6 +63,10 @@ impl Registers {
 
     pub const MAL: u32 = 0x408;
 
+    pub const MCHA: u32 = 0x40c;
+
+    pub const MCLA: u32 = 0x410;
+
     // Reset values.
     pub const IER_RESET: u32 = 0x0000_0000;
 
@@ -80,6 +86,10 @@ impl Registers {
 
     pub const MAL_RESET: u32 = 0xffff_ffff;
 
+    pub const MCHA_RESET: u32 = 0x0000_0000;
+
+    pub const MCLA_RESET: u32 = 0x0000_0000;
+
     // Writable bits; of the status register, those that writing 1 clears.
     pub const IER_WRITABLE: u32 = 0x92cf_82ef;
 
@@ -98,6 +108,10 @@ impl Registers {
     pub const MAH_WRITABLE: u32 = 0x0000_ffff;
 
     pub const MAL_WRITABLE: u32 = 0xffff_ffff;
+
+    pub const MCHA_WRITABLE: u32 = 0xffff_ffff;
+
+    pub const MCLA_WRITABLE: u32 = 0xffff_ffff;
 
     // The status bits that the base raises.
     pub const TX_CURR_DONE: u32 = 0x8000_0000;
@@ -120,6 +134,8 @@ impl Registers {
             mcr: Registers::MCR_RESET,
             mah: Registers::MAH_RESET,
             mal: Registers::MAL_RESET,
+            mcha: Registers::MCHA_RESET,
+            mcla: Registers::MCLA_RESET,
         };
         Registers {
             isr: Registers::ISR_RESET,

@@ -4,7 +4,7 @@ use mathlib.Core.Path.{_≡_, _∙_}
 use mathlib.Core.Bool.{Bool, true, false}
 use mathlib.Core.List.{List}
 use lib.ListN.{length, getD}
-use Rattle.frame.specs.declared.Filter.{Filter}
+use Rattle.filter.specs.declared.Filter.{Filter}
 use Rattle.enet.specs.declared.Enet.{Enet}
 use Rattle.receiving.specs.Receiving.{delivered}
 use Rattle.calls.specs.Calls.{Bench}

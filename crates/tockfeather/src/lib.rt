@@ -3,8 +3,9 @@
 ghost use mathlib.Core.Path.{_≡_};
 ghost use Rattle.rules.specs.Choice.{if_then_else_};
 ghost use Rattle.fcs.specs.CheckSequence.{checkRight};
-ghost use Rattle.frame.specs.Address.{accepts};
-use frame::Filter;
+ghost use Rattle.filter.specs.Filter.{filterOf};
+ghost use Rattle.filter.specs.Address.{accepts};
+use filter::Filter;
 
 // 1 where the frame's check sequence is right, 0 where it is wrong.
 #[no_mangle]
@@ -16,13 +17,22 @@ pub extern "C" fn tockfeather_frame_check(frame: &[u8]) -> u32
 
 // 1 where the address rule accepts the frame, 0 where it does not.
 #[no_mangle]
-pub extern "C" fn tockfeather_address_rule(frame: &[u8], control: u32, high: u32, low: u32) -> u32
-    ensures { λ r. ⌜ r ≡ (if accepts (record { mcr = control; mah = high; mal = low }) (now (frame .entry)) then 1 else 0) ⌝ }
+pub extern "C" fn tockfeather_address_rule(
+    frame: &[u8],
+    control: u32,
+    high: u32,
+    low: u32,
+    hash_high: u32,
+    hash_low: u32,
+) -> u32
+    ensures { λ r. ⌜ r ≡ (if accepts (filterOf control high low «hash_high» «hash_low») (now (frame .entry)) then 1 else 0) ⌝ }
 {
     let filter = Filter {
         mcr: control,
         mah: high,
         mal: low,
+        mcha: hash_high,
+        mcla: hash_low,
     };
-    if frame::accepts(filter, frame) { 1 } else { 0 }
+    if filter::accepts(filter, frame) { 1 } else { 0 }
 }

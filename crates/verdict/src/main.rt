@@ -1,7 +1,7 @@
 // Reads one raw frame from standard input, at most 1,519 bytes, and writes how many bytes it took
 // and the first of the refusals 4, 5 and 6 that the frame meets, or 0.
 
-use frame::Filter;
+use filter::Filter;
 
 // Receive-all and all-multicast off.
 const CONTROL: u32 = 0;
@@ -25,6 +25,8 @@ fn main() {
         mcr: CONTROL,
         mah: STATION_HIGH,
         mal: STATION_LOW,
+        mcha: 0,
+        mcla: 0,
     };
     let number = frame::frame_number(filter, &input[..n]);
     write_line(b"length ", n as u64);

@@ -11,4 +11,5 @@ write-spec =
     (λ c κs. search needs)
     (λ c. search write-refused)
     (λ c κs. search needs)
+    (λ c κs. search needs)
     (λ c. search write-done))

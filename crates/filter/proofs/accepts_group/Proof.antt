@@ -1,0 +1,14 @@
+-- `filter::accepts_group` meets its contract. Assumes nothing.
+use Rattle.filter.proofs.Exits.{group-by-hash, group-by-mode}
+use Rattle.filter.proofs.accepts_group.Statement.{statement}
+use Rattle.filter.proofs.accepts_group.Tie as tie
+
+pub accepts-group-spec : {M : Type 1} → statement M
+accepts-group-spec =
+    tie.close
+    (tie.spec
+    (λ c κs. tt)
+    (λ c κs. tt)
+    (λ c. search group-by-hash)
+    (λ c κs. tt)
+    (λ c. search group-by-mode))
