@@ -56,7 +56,7 @@ oracle: library
 outside: programs host oracle
 	@$(MAKE) --no-print-directory -j2 --output-sync=target $(OUTSIDE)
 
-OUTSIDE = outside-console outside-model outside-frames outside-histories outside-verdict outside-host outside-report
+OUTSIDE = outside-console outside-model outside-frames outside-histories outside-verdict outside-host outside-report outside-examples
 .PHONY: $(OUTSIDE)
 
 outside-console:
@@ -86,6 +86,10 @@ outside-host:
 outside-report:
 	@echo '== the report of the sample day'
 	python3 tests/report.py target/bin/bench
+
+outside-examples:
+	@echo '== the examples of docs/CONSOLE.md'
+	python3 tests/examples.py target/bin/bench
 
 fuzz: programs oracle
 	$(ORACLE)/fuzz target/bin/bench $(SECONDS_TO_RUN)

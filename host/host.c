@@ -2,11 +2,15 @@
  * The bench host: says of raw frames whether their check sequence is right and
  * whether the address rule accepts them.
  *
- *   host [-s STATION] [-a] [-m] [FILE ..]
+ *   host [-s STATION] [-a] [-m | -x] [-H HIGH] [-L LOW] [FILE ..]
  *
  *   -s STATION   station address, as 02-00-00-00-00-01 (the default)
  *   -a           receive-all
  *   -m           all-multicast
+ *   -x           multicast by hash; -m and -x are two values of one field, the
+ *                filter mode, so both together are a usage error
+ *   -H HIGH      the hash registers, high and low, which only -x looks at: 1 to
+ *   -L LOW       8 hexadecimal digits, no 0x; 0 where not given
  *   FILE         one raw frame, from destination address to check sequence;
  *                - is standard input, and so is no FILE at all
  *
@@ -25,14 +29,18 @@
 
 #include "tockfeather.h"
 
-/* MAC control (RM0006 8.4.21): RA, and AFM with the mode 101b. */
+/* MAC control (RM0006 8.4.21): RA, and AFM with the modes 101b and 001b. */
 #define RECEIVE_ALL UINT32_C(0x80000000)
+#define FILTER_MODE UINT32_C(0x000E0000)
 #define ALL_MULTICAST UINT32_C(0x000A0000)
+#define MULTICAST_HASH UINT32_C(0x00020000)
 
 struct registers {
     uint32_t control;
     uint32_t high;
     uint32_t low;
+    uint32_t hash_high;
+    uint32_t hash_low;
 };
 
 struct bytes {
@@ -70,6 +78,34 @@ static int set_station(const char *text, struct registers *registers)
     registers->low = (uint32_t)byte[0] | (uint32_t)byte[1] << 8 |
                      (uint32_t)byte[2] << 16 | (uint32_t)byte[3] << 24;
     registers->high = (uint32_t)byte[4] | (uint32_t)byte[5] << 8;
+    return 1;
+}
+
+/* The field holds one mode: a second one that differs is refused. */
+static int set_mode(uint32_t mode, struct registers *registers)
+{
+    uint32_t before = registers->control & FILTER_MODE;
+
+    if (before && before != mode)
+        return 0;
+    registers->control |= mode;
+    return 1;
+}
+
+/* 1 to 8 hexadecimal digits. */
+static int set_number(const char *text, uint32_t *number)
+{
+    size_t length = strlen(text);
+
+    if (length < 1 || length > 8)
+        return 0;
+    *number = 0;
+    for (size_t i = 0; i < length; i++) {
+        int value = digit(text[i]);
+        if (value < 0)
+            return 0;
+        *number = *number * 16 + (uint32_t)value;
+    }
     return 1;
 }
 
@@ -126,7 +162,8 @@ static int report(const char *name, const struct registers *registers, struct by
     printf("%s: %zu bytes, check %s, %s\n", name, frame->length,
            tockfeather_frame_check(frame->at, frame->length) ? "right" : "wrong",
            tockfeather_address_rule(frame->at, frame->length, registers->control,
-                                    registers->high, registers->low)
+                                    registers->high, registers->low,
+                                    registers->hash_high, registers->hash_low)
                ? "accepted"
                : "not accepted");
     return 1;
@@ -134,32 +171,50 @@ static int report(const char *name, const struct registers *registers, struct by
 
 static int usage(void)
 {
-    fprintf(stderr, "usage: host [-s STATION] [-a] [-m] [FILE ..]\n");
+    fprintf(stderr, "usage: host [-s STATION] [-a] [-m | -x] [-H HIGH] [-L LOW] [FILE ..]\n");
     return 2;
+}
+
+/* How many words an option takes, of its name and the word behind it, if any; 0 for a usage error. */
+static int option(const char *name, const char *word, struct registers *registers)
+{
+    if (strcmp(name, "-a") == 0) {
+        registers->control |= RECEIVE_ALL;
+        return 1;
+    }
+    if (strcmp(name, "-m") == 0)
+        return set_mode(ALL_MULTICAST, registers) ? 1 : 0;
+    if (strcmp(name, "-x") == 0)
+        return set_mode(MULTICAST_HASH, registers) ? 1 : 0;
+    if (!word)
+        return 0;
+    if (strcmp(name, "-s") == 0)
+        return set_station(word, registers) ? 2 : 0;
+    if (strcmp(name, "-H") == 0)
+        return set_number(word, &registers->hash_high) ? 2 : 0;
+    if (strcmp(name, "-L") == 0)
+        return set_number(word, &registers->hash_low) ? 2 : 0;
+    return 0;
 }
 
 int main(int count, char **argument)
 {
-    struct registers registers = {0, 0x00000100, 0x00000002};
+    struct registers registers = {0, 0x00000100, 0x00000002, 0, 0};
     struct bytes frame = {NULL, 0, 0};
     int good = 1;
     int i = 1;
 
-    for (; i < count && argument[i][0] == '-' && argument[i][1]; i++) {
-        if (strcmp(argument[i], "-a") == 0) {
-            registers.control |= RECEIVE_ALL;
-        } else if (strcmp(argument[i], "-m") == 0) {
-            registers.control |= ALL_MULTICAST;
-        } else if (strcmp(argument[i], "-s") == 0 && i + 1 < count) {
-            i++;
-            if (!set_station(argument[i], &registers))
-                return usage();
-        } else if (strcmp(argument[i], "--") == 0) {
+    while (i < count && argument[i][0] == '-' && argument[i][1]) {
+        int words;
+        if (strcmp(argument[i], "--") == 0) {
             i++;
             break;
-        } else {
-            return usage();
         }
+        /* behind the last word stands NULL */
+        words = option(argument[i], argument[i + 1], &registers);
+        if (!words)
+            return usage();
+        i += words;
     }
     if (i == count)
         good = report("-", &registers, &frame);

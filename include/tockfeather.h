@@ -29,22 +29,51 @@ uint32_t tockfeather_frame_check(const uint8_t *frame, size_t length);
  * The address rule: 1 where the frame is accepted, else 0. The numbers are the
  * values of the registers
  *
- *   control  MAC control (ENET_MCR): receive-all is bit 31; all-multicast is
- *            selected where bits 19:17 are 101b, and by no other mode
- *   high     MAC address high (ENET_MAH): bits 7:0 the fifth byte of the
- *            station address on the wire, bits 15:8 the sixth
- *   low      MAC address low (ENET_MAL): bits 7:0 the first byte of the station
- *            address on the wire, .., bits 31:24 the fourth
+ *   control    MAC control (ENET_MCR): receive-all is bit 31; bits 19:17 are
+ *              the filter mode: 101b selects all-multicast, 001b multicast by
+ *              hash, and any other mode neither
+ *   high       MAC address high (ENET_MAH): bits 7:0 the fifth byte of the
+ *              station address on the wire, bits 15:8 the sixth
+ *   low        MAC address low (ENET_MAL): bits 7:0 the first byte of the
+ *              station address on the wire, .., bits 31:24 the fourth
+ *   hash_high  multicast hash high (ENET_MCHA) and
+ *   hash_low   multicast hash low (ENET_MCLA): all 32 bits of each are the hash
+ *              table
  *
  * so that 02-00-00-00-00-01 is high 0x00000100, low 0x00000002. Bits not named
- * here have no effect. Under 6 bytes the answer is 0. Else the first that
- * applies: receive-all set, 1; a destination of six bytes FF, 1; the lowest bit
- * of the first byte set, 1 exactly if all-multicast is selected; otherwise 1
- * exactly if the first six bytes equal the station address.
+ * here have no effect, nor has the hash table in any other mode than 001b.
+ *
+ * Under 6 bytes the answer is 0. Else the first that applies:
+ *
+ *   receive-all is set                    1
+ *   the first six bytes are all FF        1
+ *   the lowest bit of the first byte is   all-multicast: 1; multicast by hash:
+ *   set                                   the destination's bit in the hash
+ *                                         table; any other mode: 0
+ *   otherwise                             1 exactly if the first six bytes equal
+ *                                         the station address
+ *
+ * A destination's bit in the hash table is found by the IEEE 802.3 check
+ * register. It has all ones at the start, takes the first six bytes, the lowest
+ * bit of each first, and is not complemented. Its coefficient of x^31 selects
+ * hash_high (1) or hash_low (0); those of x^30 to x^26, x^30 first, are the
+ * number of the bit there, 0 to 31. With x^31 as the highest bit of r:
+ *
+ *   uint32_t r = 0xFFFFFFFF;
+ *   for (int i = 0; i < 48; i++) {
+ *       uint32_t sent = frame[i / 8] >> i % 8 & 1;
+ *       r = r << 1 ^ (r >> 31 != sent ? 0x04C11DB7 : 0);
+ *   }
+ *   uint32_t accepted = (r >> 31 ? hash_high : hash_low) >> (r >> 26 & 31) & 1;
+ *
+ * So 01-80-C2-00-00-01 leaves r 0x0ED423F9, which begins 0 00011: bit 3 of
+ * hash_low, 0x00000008. 33-33-00-00-00-01 leaves 0xF99BAABA, which begins
+ * 1 11110: bit 30 of hash_high, 0x40000000.
  */
 uint32_t tockfeather_address_rule(const uint8_t *frame, size_t length,
                                   uint32_t control, uint32_t high,
-                                  uint32_t low);
+                                  uint32_t low, uint32_t hash_high,
+                                  uint32_t hash_low);
 
 #ifdef __cplusplus
 }

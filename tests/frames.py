@@ -20,6 +20,23 @@ def frame(length, destination=STATION):
     return closed((destination + filling)[:length - 4])
 
 
+def register(data):
+    """The 802.3 check register over these bytes, x^31 as its highest bit: all ones at first, not complemented."""
+    coefficients = 0xffffffff
+    for byte in data:
+        for k in range(8):
+            out = coefficients >> 31
+            coefficients = coefficients << 1 & 0xffffffff
+            if out != byte >> k & 1:
+                coefficients ^= 0x04c11db7
+    return coefficients
+
+
+def hash_index(destination):
+    """The coefficients of x^31 to x^26, x^31 first: from 32 on a bit of the high hash register, under it one of the low."""
+    return register(destination) >> 26
+
+
 def flipped(data, bit):
     """One bit changed, counted as the bits are sent."""
     changed = bytearray(data)

@@ -12,27 +12,30 @@ import zlib
 
 import frames
 
-# name, frame, check right, accepted: with both modes off, with receive-all, with all-multicast
+# name, frame, check right, accepted: with all modes off, receive-all, all-multicast, and by a hash table with bit 3 alone
 CASES = [
-    ('empty', b'', False, False, False, False),
-    ('three', b'\xff\xff\xff', False, False, False, False),
-    ('four-zeros', bytes(4), True, False, False, False),
-    ('five', frames.closed(b'\x02'), True, False, False, False),
-    ('six', frames.STATION, False, True, True, True),
-    ('six-right', frames.closed(b'\x02\x00'), True, False, True, False),
-    ('good-64', frames.frame(64), True, True, True, True),
-    ('good-1518', frames.frame(1518), True, True, True, True),
-    ('good-1519', frames.frame(1519), True, True, True, True),
-    ('big', frames.frame(3000000), True, True, True, True),
-    ('big-wrong', frames.flipped(frames.frame(3000000), 12345678), False, True, True, True),
-    ('wrong', frames.flipped(frames.frame(64), 400), False, True, True, True),
-    ('other-station', frames.frame(64, frames.OTHER), True, False, True, False),
-    ('backwards', frames.frame(64, frames.REVERSED), True, False, True, True),
-    ('nearly-broadcast', frames.frame(64, frames.NEARLY_BROADCAST), True, False, True, True),
-    ('broadcast', frames.frame(64, frames.BROADCAST), True, True, True, True),
-    ('group', frames.frame(64, frames.GROUP), True, False, True, True),
+    ('empty', b'', False, False, False, False, False),
+    ('three', b'\xff\xff\xff', False, False, False, False, False),
+    ('four-zeros', bytes(4), True, False, False, False, False),
+    ('five', frames.closed(b'\x02'), True, False, False, False, False),
+    ('six', frames.STATION, False, True, True, True, True),
+    ('six-right', frames.closed(b'\x02\x00'), True, False, True, False, False),
+    ('good-64', frames.frame(64), True, True, True, True, True),
+    ('good-1518', frames.frame(1518), True, True, True, True, True),
+    ('good-1519', frames.frame(1519), True, True, True, True, True),
+    ('big', frames.frame(3000000), True, True, True, True, True),
+    ('big-wrong', frames.flipped(frames.frame(3000000), 12345678), False, True, True, True, True),
+    ('wrong', frames.flipped(frames.frame(64), 400), False, True, True, True, True),
+    ('other-station', frames.frame(64, frames.OTHER), True, False, True, False, False),
+    ('backwards', frames.frame(64, frames.REVERSED), True, False, True, True, False),
+    ('nearly-broadcast', frames.frame(64, frames.NEARLY_BROADCAST), True, False, True, True, False),
+    ('broadcast', frames.frame(64, frames.BROADCAST), True, True, True, True, True),
+    ('group', frames.frame(64, frames.GROUP), True, False, True, True, True),
+    ('group-of-five', frames.GROUP[:5], False, False, False, False, False),
+    ('group-of-six', frames.GROUP, False, False, True, True, True),
 ]
-MODES = [[], ['-a'], ['-m']]
+MODES = [[], ['-a'], ['-m'], ['-x', '-L', '8']]
+RANDOM_MODES = [[], ['-a'], ['-m'], ['-a', '-m'], ['-x'], ['-x'], ['-x'], ['-a', '-x']]
 
 # published values of the check
 VECTORS = [
@@ -46,6 +49,37 @@ VECTORS = [
     (b'\xff' * 32, 0xff6cab0b),
 ]
 
+# groups, the 802.3 register that each leaves, x^31 as its highest bit, and their bit of the 64: from 32 on in the high register
+HASHES = [
+    ('01-80-C2-00-00-01', 0x0ed423f9, 3),
+    ('01-00-5E-00-00-01', 0x7fa32d9b, 31),
+    ('01-00-5E-00-00-FB', 0x3f7b3b21, 15),
+    ('33-33-00-00-00-01', 0xf99baaba, 62),
+    ('01-00-00-00-00-00', 0x9fb186a1, 39),
+]
+# what the hash has no say in, and whether it is accepted; the broadcast would be bit 63
+OTHERS = [('broadcast', True), ('good-64', True), ('other-station', False)]
+
+# words that are a usage error
+BAD_WORDS = [
+    ('a bad station', ['-s', '02-00-00-00-00', 'good-64']),
+    ('a bad digit', ['-s', '02-00-00-00-00-0g', 'good-64']),
+    ('no station', ['-s']),
+    ('a bad option', ['-y']),
+    ('two filter modes', ['-x', '-m', 'good-64']),
+    ('two filter modes, the other way round', ['-m', '-a', '-x', 'good-64']),
+    *((f'{option}: {title}', ['-x', option] + words) for option in ['-H', '-L'] for title, words in [
+        ('no number', []),
+        ('an empty number', ['', 'good-64']),
+        ('nine digits', ['123456789', 'good-64']),
+        ('nine digits, a zero first', ['000000001', 'good-64']),
+        ('0x', ['0x1', 'good-64']),
+        ('a bad digit', ['1g', 'good-64']),
+        ('a sign', ['-1', 'good-64']),
+        ('a blank', [' 1', 'good-64']),
+    ]),
+]
+
 
 def line(name, data, right, accepted):
     return (f"{name}: {len(data)} bytes, check {'right' if right else 'wrong'}, "
@@ -57,12 +91,26 @@ def check_right(data):
     return len(data) >= 4 and zlib.crc32(data[:-4]) == int.from_bytes(data[-4:], 'little')
 
 
-def accepted(data, station, receive_all, all_multicast):
-    """The address rule, written anew."""
-    if len(data) < 6:
+def accepted(data, station, mode, table=0):
+    """The address rule, written anew. The hash table has 64 bits, those of the high register first."""
+    to = data[:6]
+    if len(to) < 6:
         return False
-    group = data[0] & 1 == 1
-    return receive_all or data[:6] == b'\xff' * 6 or (all_multicast if group else data[:6] == station)
+    if '-a' in mode or to == frames.BROADCAST:
+        return True
+    if to[0] & 1:
+        return '-m' in mode or '-x' in mode and table >> frames.hash_index(to) & 1 == 1
+    return to == station
+
+
+def by_zlib(data):
+    """The 802.3 register out of zlib's, which is kept the other way round and complemented at the end."""
+    return int(f'{zlib.crc32(data) ^ 0xffffffff:032b}'[::-1], 2)
+
+
+def hash_words(table):
+    """The options that set a hash table."""
+    return ['-H', f'{table >> 32:x}', '-L', f'{table & 0xffffffff:08X}']
 
 
 def random_frame(source, station):
@@ -83,50 +131,105 @@ class Tests:
         self.program, self.folder = program, folder
         self.passed = self.failed = 0
 
-    def expect(self, title, words, given, status, wanted):
-        got = subprocess.run([self.program] + words, input=given, capture_output=True, cwd=self.folder, timeout=60)
-        if got.returncode == status and got.stdout.decode() == wanted:
+    def note(self, title, right, seen):
+        if right:
             self.passed += 1
         else:
             self.failed += 1
-            print(f'FAILED: {title}: wanted {wanted!r}, status {status}; got {got.stdout!r} {got.stderr!r}, status {got.returncode}')
+            print(f'FAILED: {title}: {seen}')
+
+    def write(self, name, data):
+        (pathlib.Path(self.folder) / name).write_bytes(data)
+
+    def expect(self, title, words, given, status, wanted):
+        got = subprocess.run([self.program] + words, input=given, capture_output=True, cwd=self.folder, timeout=60)
+        self.note(title, got.returncode == status and got.stdout.decode() == wanted,
+                  f'wanted {wanted!r}, status {status}; got {got.stdout!r} {got.stderr!r}, status {got.returncode}')
+
+    def cases(self):
+        for name, data, *_ in CASES:
+            self.write(name, data)
+        for k, mode in enumerate(MODES):
+            for name, data, right, *answers in CASES:
+                self.expect(f'{name} {mode}', mode + [name], b'', 0, line(name, data, right, answers[k]))
+                self.expect(f'{name} {mode}, standard input', mode, data, 0, line('-', data, right, answers[k]))
+            everything = ''.join(line(name, data, right, answers[k]) for name, data, right, *answers in CASES)
+            self.expect(f'all files {mode}', mode + [name for name, *_ in CASES], b'', 0, everything)
+        for message, check in VECTORS:
+            data = message + check.to_bytes(4, 'little')
+            self.expect(f'vector {message!r}', [], data, 0, line('-', data, True, accepted(data, frames.STATION, [])))
+
+    def hashed(self, title, mode, taken):
+        """One run over a frame for each group, of which these are taken, and over what the hash has no say in."""
+        wanted = [(name, name in taken) for name, *_ in HASHES] + OTHERS
+        self.expect(f'{title} {mode}', mode + [name for name, _ in wanted], b'', 0,
+                    ''.join(line(name, bytes(64), True, answer) for name, answer in wanted))
+
+    def hashes(self):
+        groups = [name for name, *_ in HASHES]
+        for name, register, bit in HASHES:
+            to = bytes.fromhex(name.replace('-', ''))
+            self.write(name, frames.frame(64, to))
+            self.note(f'register of {name}', frames.register(to) == register and frames.hash_index(to) == bit,
+                      f'{frames.register(to):08x}')
+        for bit in range(64):
+            self.hashed(f'bit {bit} alone', ['-x'] + hash_words(1 << bit), [name for name, _, own in HASHES if own == bit])
+            self.hashed(f'all bits but {bit}', ['-x'] + hash_words(~(1 << bit) & (1 << 64) - 1),
+                        [name for name, _, own in HASHES if own != bit])
+        self.hashed('all bits', ['-x', '-H', 'FFFFFFFF', '-L', 'ffffffff'], groups)
+        self.hashed('no bit', ['-x', '-H', '0', '-L', '00000000'], [])
+        self.hashed('no bit given', ['-x'], [])
+        self.hashed('low register alone', ['-L', 'ffffffff', '-x'], groups[:3])
+        self.hashed('high register alone', ['-H', 'ffffffff', '-x', '-x'], groups[3:])
+        self.hashed("the groups' bits", ['-x', '-H', '40000080', '-L', '80008008'], groups)
+        self.hashed("the groups' bits, registers exchanged", ['-x', '-H', '80008008', '-L', '40000080'], [])
+        self.hashed('hash registers without the mode', hash_words((1 << 64) - 1), [])
+        self.hashed('hash registers with all-multicast', ['-m'] + hash_words(0), groups)
+        everything = groups + [name for name, _ in OTHERS]
+        self.expect('receive-all and the hash', ['-a', '-x'] + everything, b'', 0,
+                    ''.join(line(name, bytes(64), True, True) for name in everything))
+
+    def randoms(self):
+        source = random.Random(1518)
+        decided, differing = {False: 0, True: 0}, []
+        for k in range(80):
+            station, mode, table = source.randbytes(6), source.choice(RANDOM_MODES), source.getrandbits(64)
+            given = [random_frame(source, station) for _ in range(25)]
+            wanted = ''
+            for n, data in enumerate(given):
+                self.write(f'random-{n}', data)
+                taken = accepted(data, station, mode, table)
+                wanted += line(f'random-{n}', data, check_right(data), taken)
+                if mode == ['-x'] and len(data) >= 6 and data[0] & 1 and data[:6] != frames.BROADCAST:
+                    decided[taken] += 1
+                differing += [data[:6].hex('-')] if frames.register(data[:6]) != by_zlib(data[:6]) else []
+            self.expect(f'25 random frames, {k}', mode + ['-s', station.hex('-')] + hash_words(table)
+                        + [f'random-{n}' for n in range(25)], b'', 0, wanted)
+        self.note('registers of random frames', not differing, differing)
+        self.note('random groups taken by the hash, and not', min(decided.values()) >= 50, decided)
+
+    def words(self):
+        good = frames.frame(64)
+        self.expect('a station', ['-s', '02-00-00-00-00-02', 'good-64', 'other-station'], b'', 0,
+                    line('good-64', good, True, False) + line('other-station', good, True, True))
+        self.expect('a station of six different bytes', ['-s', 'A2-bc-DE-f0-12-34'], frames.frame(70, bytes.fromhex('a2bcdef01234')), 0,
+                    line('-', bytes(70), True, True))
+        self.expect('both modes', ['-a', '-m', 'group'], b'', 0, line('group', good, True, True))
+        self.expect('a mode twice', ['-m', '-m', 'group'], b'', 0, line('group', good, True, True))
+        self.expect('a file and standard input', ['group', '-'], good, 0, line('group', good, True, False) + line('-', good, True, True))
+        self.expect('no option behind --', ['--', 'group', '-x'], b'', 1, line('group', good, True, False))
+        self.expect('no such file', ['missing', 'good-64'], b'', 1, line('good-64', good, True, True))
+        for title, words in BAD_WORDS:
+            self.expect(title, words, b'', 2, '')
 
 
 def main(program):
     with tempfile.TemporaryDirectory() as folder:
         tests = Tests(str(pathlib.Path(program).resolve()), folder)
-        for name, data, *_ in CASES:
-            (pathlib.Path(folder) / name).write_bytes(data)
-        for k, mode in enumerate(MODES):
-            for name, data, right, *answers in CASES:
-                tests.expect(f'{name} {mode}', mode + [name], b'', 0, line(name, data, right, answers[k]))
-                tests.expect(f'{name} {mode}, standard input', mode, data, 0, line('-', data, right, answers[k]))
-            everything = ''.join(line(name, data, right, answers[k]) for name, data, right, *answers in CASES)
-            tests.expect(f'all files {mode}', mode + [name for name, *_ in CASES], b'', 0, everything)
-        for message, check in VECTORS:
-            data = message + check.to_bytes(4, 'little')
-            tests.expect(f'vector {message!r}', [], data, 0, line('-', data, True, accepted(data, frames.STATION, False, False)))
-        source = random.Random(1518)
-        for k in range(40):
-            station = source.randbytes(6)
-            mode = source.choice(MODES + [['-a', '-m']])
-            given = [random_frame(source, station) for _ in range(25)]
-            for n, data in enumerate(given):
-                (pathlib.Path(folder) / f'random-{n}').write_bytes(data)
-            wanted = ''.join(line(f'random-{n}', data, check_right(data), accepted(data, station, '-a' in mode, '-m' in mode))
-                             for n, data in enumerate(given))
-            tests.expect(f'25 random frames, {k}', mode + ['-s', station.hex('-')] + [f'random-{n}' for n in range(25)], b'', 0, wanted)
-        good = frames.frame(64)
-        tests.expect('a station', ['-s', '02-00-00-00-00-02', 'good-64', 'other-station'], b'', 0,
-                     line('good-64', good, True, False) + line('other-station', good, True, True))
-        tests.expect('a station of six different bytes', ['-s', 'A2-bc-DE-f0-12-34'], frames.frame(70, bytes.fromhex('a2bcdef01234')), 0,
-                     line('-', bytes(70), True, True))
-        tests.expect('both modes', ['-a', '-m', 'group'], b'', 0, line('group', good, True, True))
-        tests.expect('a file and standard input', ['group', '-'], good, 0, line('group', good, True, False) + line('-', good, True, True))
-        tests.expect('no such file', ['missing', 'good-64'], b'', 1, line('good-64', good, True, True))
-        tests.expect('a bad station', ['-s', '02-00-00-00-00', 'good-64'], b'', 2, '')
-        tests.expect('a bad digit', ['-s', '02-00-00-00-00-0g', 'good-64'], b'', 2, '')
-        tests.expect('a bad option', ['-x'], b'', 2, '')
+        tests.cases()
+        tests.hashes()
+        tests.randoms()
+        tests.words()
         print(f'host: {tests.passed} passed, {tests.failed} failed')
         return 1 if tests.failed or not tests.passed else 0
 

@@ -18,41 +18,52 @@ import zlib
 ROOT = pathlib.Path(__file__).resolve().parent.parent
 REPORT, DAY = ROOT / 'tools' / 'report', ROOT / 'examples' / 'day.txt'
 STATION, BROADCAST = bytes.fromhex('020000000001'), b'\xff' * 6
+# the group whose bit the firmware sets on the sample day; no frame comes to it but in hash mode
+GROUP = bytes.fromhex('030000000001')
 SVG = '{http://www.w3.org/2000/svg}'
 
 # ---- the sample day, by hand
 
 # answers to the grants and to the frames, in the script's order
-GRANTS = [0, 0, 0, 14, 13, 0, 0, 0, 0, 0, 0, 0]
-FRAMES = [8, 0, 0, 6, 6, 5, 4, 0, 0, 0, 0, 0, 8, 0, 11]
+GRANTS = [0, 0, 0, 14, 13, 0, 0, 0, 0, 0, 0, 0, 0]
+FRAMES = [8, 0, 0, 6, 6, 5, 4, 0, 0, 0, 0, 0, 8, 0, 0, 6, 11]
 # the burst's number, then the answer to each of its pairs, and what the picture shows of them
 BURST = [0, 0, 0, 16, 8]
 BURST_MARKS = ['delivered', 'delivered', 'refused', 'lost']
-# the ring's fill: three grants, three frames, four grants, four frames, one grant, one frame, two grants, and two frames
-# of the burst
-FILL = [0, 1, 2, 3, 2, 1, 0, 1, 2, 3, 4, 3, 2, 1, 0, 1, 0, 1, 2, 1, 0]
+# the ring's fill: three grants, three frames, four grants, four frames, one grant, one frame, two grants, two frames of
+# the burst, one grant, and one frame of the group
+FILL = [0, 1, 2, 3, 2, 1, 0, 1, 2, 3, 4, 3, 2, 1, 0, 1, 0, 1, 2, 1, 0, 1, 0]
 # the broadcast has 14 + 77 + 4 bytes, each result 64; the sends have 64, 64 and 66 + 4
 TOTALS = [
-    'calls 105',
-    'grants made 10',
+    'calls 113',
+    'grants made 11',
     'grants refused 2',
     '13 1 descriptor not at a multiple of 4 or not all in the window',
     '14 1 descriptor already granted',
     'bursts made 1 4 pairs, 1 outside the store',
     'bursts refused 0',
-    'frames delivered 10 671 bytes',
+    'frames delivered 11 735 bytes',
     'frames lost 3 192 bytes',
-    'frames refused 5',
+    'frames refused 6',
     '4 1 frame under 64 or over 1,518 bytes',
     '5 1 frame check sequence wrong',
-    '6 2 address not for this station',
+    '6 3 address not for this station',
     "11 1 lent memory not of the window's length",
     'frames sent 3 198 bytes',
 ]
-# five frames are refused, and one pair is outside
-MARKS = {'grants': 10, 'delivered': 10, 'lost': 3, 'refused': 6, 'sent': 2}
+# six frames are refused, and one pair is outside
+MARKS = {'grants': 11, 'delivered': 11, 'lost': 3, 'refused': 7, 'sent': 2}
 SHOWN = ['1042;41,7', '1043;0,185', '1045;41,700', '1044;38,25', '1046;40,05', '1047;39,9', '1048;42,125', '2017;37,6',
-         '3108;40,25']
+         '3108;40,25', '5012;39,4']
+# what the day says of the hash: the write of its mode and of its bit, the frames of the two groups, the mode set back
+HASHED = [
+    'write 400 0002000c -> 0 done: MCR (MAC control): AFM=1, TE, RE; receive-all off, multicast by hash',
+    'write 410 00000200 -> 0 done: MCLA (multicast hash low): bit 9 set',
+    'frame (64 bytes, to 03-00-00-00-00-01 (MCLA bit 9), 88B5 "5012;39,4") -> 0 delivered',
+    'frame (64 bytes, to 03-00-00-00-00-02 (MCLA bit 30), 88B5 "6034;38,9") -> 6 refused: address not for this station',
+    'show 20000020 -> 0 done: descriptor 3 of the ring holds 60 bytes, to 03-00-00-00-00-01, 88B5 "5012;39,4"',
+    'write 400 0000000c -> 0 done: MCR (MAC control): TE, RE; receive-all off, all-multicast off',
+]
 
 # ---- short scripts: each line with its answer, and what the report has to say of it
 
@@ -69,6 +80,8 @@ LINES = [
     ('read 4', 'read 0 00000080', 'IER (interrupt enable) is 00000080: RX_DONE'),
     ('read 408', 'read 0 00000002', 'MAL (MAC address low) is 00000002: the station address begins 02-00-00-00'),
     ('read 404', 'read 0 00000100', 'MAH (MAC address high) is 00000100: the station address ends 00-01'),
+    ('read 40c', 'read 0 ffffffff', 'MCHA (multicast hash high) is ffffffff: all bits set'),
+    ('read 410', 'read 0 80000009', 'MCLA (multicast hash low) is 80000009: bits 31, 3, 0 set'),
     ('read c', 'read 2 00000000', '2 refused: register not modelled'),
     ('write 8 20', 'write 0', 'ISR (interrupt status): clears PACKET_LOST'),
     ('write 4 80000000', 'write 0', 'IER (interrupt enable): enables TX_CURR_DONE'),
@@ -78,7 +91,10 @@ LINES = [
     ('write 1c 103', 'write 0', 'RXNDAR (receive next descriptor): address 00000100'),
     ('write 3c 100', 'write 15', '15 refused: next-descriptor register written while its engine runs'),
     ('write 400 800a0004', 'write 0', 'MCR (MAC control): RA, AFM=5, RE; receive-all on, all-multicast on'),
-    ('write 400 00080000', 'write 0', 'AFM=4; receive-all off, all-multicast off'),
+    ('write 400 00020000', 'write 0', 'AFM=1; receive-all off, multicast by hash'),
+    *((f'write 400 {mode << 17:x}', 'write 0', f'AFM={mode}; receive-all off, all-multicast off') for mode in (2, 3, 4, 6, 7)),
+    ('write 40c 40000000', 'write 0', 'MCHA (multicast hash high): bit 30 set'),
+    ('write 410 0', 'write 0', 'MCLA (multicast hash low): no bit set'),
     ('line', 'line 0', '0: the interrupt line is low'),
     ('line', 'line 1', '1: the interrupt line is high'),
     ('grant 100', 'grant 0', '0 done: descriptor at 00000100 handed to the DMA'),
@@ -145,6 +161,21 @@ BURST_TOTALS = ['calls 6', 'grants made 2', 'bursts made 2 7 pairs, 2 outside th
 BURST_SIGNS = [('grants', 1, ''), ('grants', 2, ''), ('delivered', 3, ''), ('delivered', 3, ''), ('refused', 3, '16'),
                ('refused', 3, '4'), ('lost', 3, ''), ('refused', 3, '4'), ('refused', 3, '16'), ('refused', 4, '16'),
                ('refused', 5, '16')]
+
+# ---- hash mode: MAC control as it was written last, or 'new', a destination, and whether and how its bit is told
+
+TO = [
+    ('00020000', '0180c2000001', '01-80-C2-00-00-01 (MCLA bit 3)'),
+    ('7ff3ffff', '01005e000001', '01-00-5E-00-00-01 (MCLA bit 31)'),
+    ('00020000', '333300000001', '33-33-00-00-00-01 (MCHA bit 30)'),
+    ('00020000', '010000000000', '01-00-00-00-00-00 (MCHA bit 7)'),
+    # broadcast and stations are not asked for by the hash, nor is anything with receive-all or in another mode
+    ('00020000', 'ffffffffffff', 'FF-FF-FF-FF-FF-FF'),
+    ('00020000', '020000000001', '02-00-00-00-00-01'),
+    ('80020000', '0180c2000001', '01-80-C2-00-00-01'),
+    *((f'{mode << 17:x}', '0180c2000001', '01-80-C2-00-00-01') for mode in (0, 2, 3, 4, 5, 6, 7)),
+    ('new', '0180c2000001', '01-80-C2-00-00-01'),
+]
 
 # name, script, output, what the report has to say; each ends with status 1
 FAULTS = [
@@ -253,6 +284,21 @@ class Tests:
         self.expect('the box of a burst', given == [[f'line 3: {told}' for told in BURSTS[2][2][1:]]], given)
         self.expect('fill in bursts', fill(root, 2) == [0, 1, 2, 1, 0], fill(root, 2))
 
+    def hashes(self):
+        """The bit of a frame is told exactly where the address rule asks for it, of a pair too."""
+        script, output, wanted = '', '', []
+        for control, to, told in TO:
+            data = to + RESULT[12:] + '00000000'
+            script += 'write 400 20000\n' + ('new 0 64\n' if control == 'new' else f'write 400 {control}\n')
+            output += 'write 0\n' + ('new 0\n' if control == 'new' else 'write 0\n')
+            script += f'frame {data}\nburst 1 {data} 0 64\nshow 0\n'
+            output += f'frame 6\nburst 0 6\nshow 0 {data[:-8]}\n'
+            # what is shown was taken before
+            wanted += [told, told, told.split(' ')[0]]
+        status, text = self.report(script, output)
+        given = re.findall(r', to (.*), 88B5', text)
+        self.expect('bits of the hash', status == 0 and given == wanted, text)
+
     def faults(self):
         for name, script, output, wanted in FAULTS:
             status, text = self.report(script, output, '--svg', self.folder / 'fault.svg')
@@ -282,6 +328,9 @@ class Tests:
         self.expect('status of the day', status == 0, text)
         for wanted in TOTALS:
             self.expect(f'the day: {wanted}', wanted in rows(text), text)
+        told = [re.sub(r'^\d+ ', '', row) for row in rows(re.sub(r'\n +->', ' ->', text))]
+        at = told.index(HASHED[0]) if HASHED[0] in told else 0
+        self.expect('the hash of the day', told[at:at + len(HASHED)] == HASHED, text)
         self.expect('results shown', re.findall(r'descriptor \d of the ring holds 60 bytes, .*"(.*)"', text) == SHOWN, text)
         self.picture(ElementTree.parse(picture).getroot())
 
@@ -345,7 +394,7 @@ def refusal(frame):
         return 4
     if zlib.crc32(frame[:-4]) != int.from_bytes(frame[-4:], 'little'):
         return 5
-    return 0 if frame[:6] in (STATION, BROADCAST) else 6
+    return 0 if frame[:6] in (STATION, BROADCAST, GROUP) else 6
 
 
 def found(store, *numbers):
@@ -367,6 +416,7 @@ def main(program):
         tests.ring()
         tests.headings()
         tests.bursts()
+        tests.hashes()
         tests.faults()
         tests.day(str(pathlib.Path(program).resolve()))
     print(f'report: {tests.passed} passed, {tests.failed} failed')

@@ -119,12 +119,13 @@ class Day:
         self.faults = [entry for entry in self.entries if isinstance(entry, Fault)]
 
     def forget(self):
-        """A new bench has no ring yet."""
+        """A new bench has no ring yet, and MAC control is 0."""
         # bytes that the firmware wrote, by address
         self.written = {}
         # addresses: those of the ring last found sound, and those written as descriptors
         self.ring, self.descriptors = [], set()
         self.fill = 0
+        self.control = 0
 
     def told(self, entry):
         if not isinstance(entry, pairing.Call):
@@ -180,6 +181,8 @@ class Day:
 
     def tell_write(self, told, offset, value, number):
         told.answered = wording.answer(number, f'{wording.register(offset)}: {wording.takes(offset, value)}')
+        if number == 0 and offset == wording.MAC_CONTROL:
+            self.control = value
 
     def tell_line(self, told, high):
         told.answered = f'{high}: the interrupt line is {"high" if high else "low"}'
@@ -194,7 +197,7 @@ class Day:
         self.fill += 1
 
     def tell_frame(self, told, data, number):
-        told.asked = f'frame ({message(data, 4)})'
+        told.asked = f'frame ({message(data, 4, self.control)})'
         told.number = number
         if number == 0:
             told.kind, told.answered = 'delivered', '0 delivered'

@@ -1,4 +1,5 @@
 """The words of a report: numbered results, registers, frames and descriptors."""
+import zlib
 
 # document 01, "Numbered results", the column "Given when"; from 16 on document 02
 NUMBERS = [
@@ -31,6 +32,7 @@ LEAVES = {
     12: 'sending stops',
 }
 
+MAC_CONTROL = 0x400
 # offset: short name, name
 REGISTERS = {
     0x04: ('IER', 'interrupt enable'),
@@ -39,9 +41,11 @@ REGISTERS = {
     0x1c: ('RXNDAR', 'receive next descriptor'),
     0x30: ('TXSTR', 'send start'),
     0x3c: ('TXNDAR', 'send next descriptor'),
-    0x400: ('MCR', 'MAC control'),
+    MAC_CONTROL: ('MCR', 'MAC control'),
     0x404: ('MAH', 'MAC address high'),
     0x408: ('MAL', 'MAC address low'),
+    0x40c: ('MCHA', 'multicast hash high'),
+    0x410: ('MCLA', 'multicast hash low'),
 }
 
 INTERRUPTS = [
@@ -63,6 +67,10 @@ FIELDS = {
             ('RVFF', 9, 9), ('APR', 8, 8), ('BL', 7, 6), ('DCE', 5, 5), ('RVBE', 4, 4), ('TE', 3, 3), ('RE', 2, 2),
             ('RCFA', 0, 0)],
 }
+
+# filter modes that take groups, by their field of MAC control
+MULTICAST_HASH = 0b001
+MODES = {MULTICAST_HASH: 'multicast by hash', 0b101: 'all-multicast on'}
 
 DMA_EN, START_FETCH, NEXT_ENABLE, VALID = 1 << 0, 1 << 2, 1 << 14, 1 << 16
 BROADCAST = b'\xff' * 6
@@ -108,10 +116,38 @@ def fields(short, value):
     return ', '.join(found) or 'no bit set'
 
 
-def address_filter(value):
+def receive_all(control):
+    return control >> 31 & 1 == 1
+
+
+def filter_mode(control):
+    return control >> 17 & 7
+
+
+def address_filter(control):
     """What the address rule takes from MAC control."""
-    receive_all, all_multicast = value >> 31 & 1 == 1, value >> 17 & 7 == 5
-    return f'receive-all {"on" if receive_all else "off"}, all-multicast {"on" if all_multicast else "off"}'
+    return f'receive-all {"on" if receive_all(control) else "off"}, {MODES.get(filter_mode(control), "all-multicast off")}'
+
+
+def hashes(control, destination):
+    """Whether the address rule asks the hash registers."""
+    group = destination[0] & 1 == 1 and destination != BROADCAST
+    return group and not receive_all(control) and filter_mode(control) == MULTICAST_HASH
+
+
+def hash_bit(destination):
+    """The bit of the hash registers that a group has, by the 802.3 register: zlib's is kept the other way round, and
+    complemented at the end."""
+    coefficients = f'{zlib.crc32(destination) ^ 0xffffffff:032b}'[::-1]
+    return f'{"MCHA" if coefficients[0] == "1" else "MCLA"} bit {int(coefficients[1:6], 2)}'
+
+
+def bits(value):
+    """The bits that are set, the highest first."""
+    found = [str(k) for k in reversed(range(32)) if value >> k & 1]
+    if len(found) in (0, 32):
+        return 'all bits set' if found else 'no bit set'
+    return f'bit{"" if len(found) == 1 else "s"} {", ".join(found)} set'
 
 
 def holds(offset, value):
@@ -127,6 +163,8 @@ def holds(offset, value):
         return f'the station address ends {hyphens((value & 0xffff).to_bytes(2, "little"))}'
     if short in ('RXNDAR', 'TXNDAR'):
         return f'address {address(value):08x}'
+    if short in ('MCHA', 'MCLA'):
+        return bits(value)
     return 'not known to this report'
 
 
@@ -165,12 +203,13 @@ def text(data):
     return f'"{shown}"' if len(shown) <= LONGEST_TEXT else f'"{shown[:LONGEST_TEXT]}.."'
 
 
-def message(data, check):
-    """A frame in a few words. Its last `check` bytes are its check sequence."""
+def message(data, check, control=0):
+    """A frame in a few words. Its last `check` bytes are its check sequence. With MAC control as a frame comes in, the bit
+    is told that decides on it."""
     words = [count(len(data), 'byte')]
     if 14 + check <= len(data):
         to, kind = data[:6], data[12:14].hex().upper()
-        words.append(f'to {hyphens(to)}')
+        words.append(f'to {hyphens(to)}' + (f' ({hash_bit(to)})' if hashes(control, to) else ''))
         words.append(f'{kind} {text(data[14:len(data) - check])}'.rstrip())
     return ', '.join(words)
 
