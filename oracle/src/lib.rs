@@ -9,6 +9,8 @@ pub mod compare;
 pub mod console;
 pub mod device;
 pub mod frames;
+pub mod hash;
+pub mod hash_vectors;
 pub mod hex;
 pub mod numbers;
 pub mod program;
