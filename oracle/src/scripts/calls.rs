@@ -2,7 +2,7 @@
 
 use super::writer::Writer;
 use crate::frames::{self, Destination, Ending};
-use crate::{address, hex};
+use crate::hex;
 
 /// The modelled offsets.
 pub const OFFSETS: [u32; 9] = [0x04, 0x08, 0x10, 0x1C, 0x30, 0x3C, 0x400, 0x404, 0x408];
@@ -90,9 +90,8 @@ impl Writer {
 
     /// A frame that passes, whatever the filter registers hold.
     pub fn passing_frame(&mut self, length: usize) -> Vec<u8> {
-        let (control, high, low) = self.console.bench.filter();
-        let station = address::station(high, low);
-        let destination = match address::accepted(&station, control, high, low) {
+        let filter = self.console.bench.filter();
+        let destination = match filter.accepts(&filter.station()) {
             true => self
                 .random
                 .pick(&[Destination::Own, Destination::Broadcast]),
@@ -102,8 +101,7 @@ impl Writer {
     }
 
     fn frame_with(&mut self, destination: Destination, ending: Ending, length: usize) -> Vec<u8> {
-        let (_, high, low) = self.console.bench.filter();
-        let station = address::station(high, low);
+        let station = self.console.bench.filter().station();
         let destination = destination.make(station, &mut self.random);
         let message = frames::message(destination, length, &mut self.random);
         ending.make(&message, &mut self.random)

@@ -1,9 +1,10 @@
 //! Random and boundary frames for the comparison.
 
 use crate::compare::Comparison;
+use oracle::address::{self, Filter};
 use oracle::frames::{self, Destination, Ending};
 use oracle::random::Random;
-use oracle::{address, check, verdict};
+use oracle::{check, verdict};
 
 /// How many random frames are compared.
 const FRAMES: usize = 24_000;
@@ -104,14 +105,17 @@ fn functions(
         let filter = address::RECEIVE_ALL | 0b111 << address::FILTER_MODE_SHIFT;
         control |= random.word() & !filter;
     }
-    let (mut high, low) = address::registers(station);
+    let mut filter = Filter {
+        control,
+        ..Filter::of_station(station)
+    };
     if random.once_in(16) {
         comparison.tally.met("high register with reserved bits set");
-        high |= random.word() << 16 | 1 << 16;
+        filter.high |= random.word() << 16 | 1 << 16;
     }
     comparison.tally.met(mode_name(mode, receive_all));
-    let accepted = address::accepted(frame, control, high, low);
-    comparison.address_rule(frame, control, high, low, accepted.into())
+    let accepted = filter.accepts(frame);
+    comparison.address_rule(frame, &filter, accepted.into())
 }
 
 /// The verdict program at every boundary length, with each kind of destination and check sequence.

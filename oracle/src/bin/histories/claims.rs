@@ -14,11 +14,11 @@ pub struct Mark {
 impl History<'_> {
     /// Holds the frames of one call, which has just ended, and their answers against the claims.
     pub fn ended(&mut self, kind: &str, met: &[(&[u8], u32)]) -> Result<(), String> {
-        // No call of a history changes these, so that they are those at each receive's start.
-        let (control, high, low) = self.now.bench.filter();
+        // "A frame passes if its bytes and the registers at the start bring none of 4, 5 and 6."
+        let filter = self.start.bench.filter();
         let mut delivered = Vec::new();
         for (frame, answer) in met {
-            let turned_away = verdict::first_number(frame, control, high, low);
+            let turned_away = verdict::first_number(frame, &filter);
             let all_used = self.delivered == self.grants;
             let wanted = match (turned_away, all_used) {
                 (0, true) => 8,

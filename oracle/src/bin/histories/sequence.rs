@@ -1,7 +1,6 @@
 //! The sequence of frames that histories meet.
 
 use crate::start::Start;
-use oracle::address;
 use oracle::frames::{self, Destination, Ending};
 use oracle::random::Random;
 
@@ -33,7 +32,6 @@ fn again(frame: &[u8], random: &mut Random) -> Vec<u8> {
 
 /// A frame for the start's filter registers, most often one that passes.
 fn frame(start: &Start, random: &mut Random) -> Vec<u8> {
-    let (_, high, low) = start.bench.filter();
     let destination = match random.below(3) {
         0 => random.pick(&Destination::ALL),
         1 => Destination::Broadcast,
@@ -48,7 +46,7 @@ fn frame(start: &Start, random: &mut Random) -> Vec<u8> {
         1 => random.pick(&[64, 1_518]),
         _ => random.between(64, 300),
     };
-    let destination = destination.make(address::station(high, low), random);
+    let destination = destination.make(start.bench.filter().station(), random);
     let message = frames::message(destination, length, random);
     ending.make(&message, random)
 }
