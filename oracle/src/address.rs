@@ -11,7 +11,8 @@ pub const ALL_MULTICAST_MODE: u32 = 0b101;
 /// "The mode of perfect address and multicast hash."
 pub const HASH_MODE: u32 = 0b001;
 
-const BROADCAST: [u8; 6] = [0xFF; 6];
+/// The broadcast address.
+pub const BROADCAST: [u8; 6] = [0xFF; 6];
 
 /// The registers that the address rule goes by: MAC control, MAC address high and low, multicast
 /// hash high and low.
