@@ -1,6 +1,7 @@
 //! What is claimed of a history, frame by frame and as a whole.
 
 use crate::history::History;
+use oracle::numbers::{DONE, FRAME_ADDRESS};
 use oracle::verdict;
 
 /// What a comparison of two histories goes by, receive by receive: the grants made before it, and
@@ -27,6 +28,15 @@ impl History<'_> {
             };
             if *answer != wanted {
                 return Err(format!("a {kind} is answered {answer}, not {wanted}"));
+            }
+            match turned_away {
+                DONE if filter.asks_hash(frame) => {
+                    self.tally.met(format!("{kind} passing by hash"))
+                }
+                FRAME_ADDRESS if filter.asks_hash(frame) => {
+                    self.tally.met(format!("{kind} turned away by hash"));
+                }
+                _ => {}
             }
             match answer {
                 0 => {
@@ -66,6 +76,15 @@ impl History<'_> {
             return Err(format!("frame {place} has another length"));
         }
         Ok(())
+    }
+
+    /// The firmware writes "no register but the interrupt ones", so that the filter's are those of the
+    /// start, the hash registers too.
+    pub fn keeps_the_filter(&self) -> Result<(), String> {
+        match self.now.bench.filter() == self.start.bench.filter() {
+            true => Ok(()),
+            false => Err("a filter register was written".to_string()),
+        }
     }
 
     /// "State, window and answers equal those of single receives": the whole history is made again
