@@ -57,7 +57,7 @@ pub fn expect(tally: &mut Tally) {
 }
 
 /// How often a kind must be met.
-fn least(kind: &str) -> usize {
+pub fn least(kind: &str) -> usize {
     let by_hash = [false, true].map(by_hash_name).contains(&kind);
     let mode = (0..8).any(|mode| mode_name(mode) == kind);
     match (by_hash, mode) {
@@ -65,11 +65,4 @@ fn least(kind: &str) -> usize {
         (_, true) => MODE_LEAST,
         _ => 1,
     }
-}
-
-/// The kinds met too seldom, each with both counts.
-pub fn missing(tally: &Tally) -> Vec<String> {
-    let rare = tally.rare(least).into_iter();
-    rare.map(|kind| format!("{kind} ({} times, not {})", tally.count(kind), least(kind)))
-        .collect()
 }

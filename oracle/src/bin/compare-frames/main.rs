@@ -30,7 +30,7 @@ fn main() -> ExitCode {
             return ExitCode::FAILURE;
         }
     }
-    let missing = expected::missing(&comparison.tally);
+    let missing = comparison.tally.missing(expected::least);
     if !missing.is_empty() {
         println!("compare-frames: met too seldom: {}", missing.join("; "));
         return ExitCode::FAILURE;

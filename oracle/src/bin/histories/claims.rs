@@ -29,14 +29,12 @@ impl History<'_> {
             if *answer != wanted {
                 return Err(format!("a {kind} is answered {answer}, not {wanted}"));
             }
-            match turned_away {
-                DONE if filter.asks_hash(frame) => {
-                    self.tally.met(format!("{kind} passing by hash"))
+            if filter.asks_hash(frame) {
+                match turned_away {
+                    DONE => self.tally.met(format!("{kind} passing by hash")),
+                    FRAME_ADDRESS => self.tally.met(format!("{kind} turned away by hash")),
+                    _ => {}
                 }
-                FRAME_ADDRESS if filter.asks_hash(frame) => {
-                    self.tally.met(format!("{kind} turned away by hash"));
-                }
-                _ => {}
             }
             match answer {
                 0 => {

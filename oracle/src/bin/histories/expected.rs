@@ -49,7 +49,8 @@ pub fn expect(tally: &mut Tally) {
     (0..8).for_each(|mode| tally.expect(start_name(mode)));
 }
 
-fn least(kind: &str) -> usize {
+/// How often a kind must be met.
+pub fn least(kind: &str) -> usize {
     if BY_HASH.contains(&kind) {
         BY_HASH_LEAST
     } else if (0..8).any(|mode| start_name(mode) == kind) {
@@ -57,11 +58,4 @@ fn least(kind: &str) -> usize {
     } else {
         1
     }
-}
-
-/// The kinds met too seldom, each with both counts.
-pub fn missing(tally: &Tally) -> Vec<String> {
-    let rare = tally.rare(least).into_iter();
-    rare.map(|kind| format!("{kind} ({} times, not {})", tally.count(kind), least(kind)))
-        .collect()
 }

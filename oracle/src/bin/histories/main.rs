@@ -33,7 +33,7 @@ fn main() -> ExitCode {
         }
     }
     print!("{tally}");
-    let missing = expected::missing(&tally);
+    let missing = tally.missing(expected::least);
     if !missing.is_empty() {
         println!("histories: met too seldom: {}", missing.join("; "));
         return ExitCode::FAILURE;
