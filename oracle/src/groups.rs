@@ -30,6 +30,10 @@ pub fn any(random: &mut Random) -> [u8; 6] {
 /// A group address whose hash bit stands at `level`; any other one if the table has none.
 pub fn at_level(filter: &Filter, level: bool, random: &mut Random) -> [u8; 6] {
     let mut address = any(random);
+    let other_level = if level { 0 } else { u32::MAX };
+    if [filter.hash_high, filter.hash_low] == [other_level; 2] {
+        return address;
+    }
     for _ in 0..DRAWS {
         if hash::selected(address, filter.hash_high, filter.hash_low) == level {
             break;

@@ -19,7 +19,7 @@ impl Writer {
         self.set_table();
     }
 
-    /// One of the two halves of a group's filter anew, in the middle of a script.
+    /// The mode or the hash table anew, in the middle of a script.
     pub fn change_filter(&mut self) {
         match self.random.below(3) {
             0 => self.set_mode(),
