@@ -1,7 +1,7 @@
 //! Random frames, right and damaged, for the comparisons.
 
-use crate::check;
 use crate::random::Random;
+use crate::{check, groups};
 
 /// How a frame's destination stands to the station address.
 #[derive(Clone, Copy, Debug, PartialEq, Eq, PartialOrd, Ord)]
@@ -45,10 +45,7 @@ impl Destination {
                 address = [0xFF; 6];
                 address[random.below(6)] ^= 1 << random.below(8);
             }
-            Destination::Group => {
-                address.copy_from_slice(&random.bytes(6));
-                address[0] |= 1;
-            }
+            Destination::Group => address = groups::any(random),
             Destination::Other => address.copy_from_slice(&random.bytes(6)),
         }
         address

@@ -23,17 +23,12 @@ impl Tally {
         self.counts.get(kind).copied().unwrap_or_default()
     }
 
-    /// The kinds met under `least` times.
-    pub fn under(&self, least: usize) -> Vec<&str> {
-        self.rare(|_| least)
-    }
-
-    /// The kinds met less often than `least` asks of each.
-    pub fn rare(&self, least: impl Fn(&str) -> usize) -> Vec<&str> {
+    /// The kinds met less often than `least` asks of each, with both counts.
+    pub fn missing(&self, least: impl Fn(&str) -> usize) -> Vec<String> {
         self.counts
             .iter()
             .filter(|(kind, count)| **count < least(kind))
-            .map(|(kind, _)| kind.as_str())
+            .map(|(kind, count)| format!("{kind} ({count} times, not {})", least(kind)))
             .collect()
     }
 }

@@ -1,7 +1,8 @@
 //! What the small verdict program says about one raw frame.
 
+use crate::address::Filter;
+use crate::check;
 use crate::numbers::{DONE, FRAME_ADDRESS, FRAME_CHECK, FRAME_LENGTH};
-use crate::{address, check};
 
 /// The station of the verdict program, in wire order.
 pub const STATION: [u8; 6] = [0x02, 0, 0, 0, 0, 0x01];
@@ -15,12 +16,12 @@ pub fn length_allowed(length: usize) -> bool {
 }
 
 /// The first of 4, 5 and 6 that a frame meets with these registers, or 0.
-pub fn first_number(frame: &[u8], control: u32, high: u32, low: u32) -> u32 {
+pub fn first_number(frame: &[u8], filter: &Filter) -> u32 {
     if !length_allowed(frame.len()) {
         FRAME_LENGTH
     } else if !check::right(frame) {
         FRAME_CHECK
-    } else if !address::accepted(frame, control, high, low) {
+    } else if !filter.accepts(frame) {
         FRAME_ADDRESS
     } else {
         DONE
@@ -30,8 +31,8 @@ pub fn first_number(frame: &[u8], control: u32, high: u32, low: u32) -> u32 {
 /// How many bytes of `input` the program takes, and its verdict on them.
 pub fn verdict(input: &[u8]) -> (usize, u32) {
     let taken = &input[..input.len().min(TAKEN_AT_MOST)];
-    let (high, low) = address::registers(STATION);
-    (taken.len(), first_number(taken, 0, high, low))
+    let filter = Filter::of_station(STATION);
+    (taken.len(), first_number(taken, &filter))
 }
 
 /// The program's whole output for `input`.

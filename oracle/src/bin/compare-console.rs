@@ -29,14 +29,9 @@ fn main() -> ExitCode {
         }
     }
     print!("{tally}");
-    let rare = tally.rare(|kind| least(kind, calls));
-    if !rare.is_empty() {
-        let told = rare.iter().map(|kind| {
-            let (met, least) = (tally.count(kind), least(kind, calls));
-            format!("{kind} ({met} times, not {least})")
-        });
-        let told: Vec<String> = told.collect();
-        println!("compare-console: met too seldom: {}", told.join("; "));
+    let missing = tally.missing(|kind| least(kind, calls));
+    if !missing.is_empty() {
+        println!("compare-console: met too seldom: {}", missing.join("; "));
         return ExitCode::FAILURE;
     }
     println!("compare-console: no difference");

@@ -1,6 +1,6 @@
 //! Counts the answers that a comparison meets, and names those it must.
 
-use super::bursts;
+use super::{bursts, hashes};
 use crate::tally::Tally;
 use std::fmt;
 
@@ -50,6 +50,7 @@ const ANSWERS: [(&str, &[u32]); 9] = [
 /// Names every answer there is, so that one never met is seen.
 pub fn expect(tally: &mut Tally) {
     bursts::expect(tally);
+    hashes::expect(tally);
     for number in 0..=16 {
         tally.expect(number_name(number));
     }
@@ -75,9 +76,10 @@ pub fn expect(tally: &mut Tally) {
 
 /// How often a kind must be met in a whole comparison.
 pub fn least(kind: &str) -> usize {
-    match bursts::is_answer(kind) {
-        true => bursts::ANSWER_LEAST,
-        false => LEAST,
+    match hashes::least(kind) {
+        Some(least) => least,
+        None if bursts::is_answer(kind) => bursts::ANSWER_LEAST,
+        None => LEAST,
     }
 }
 

@@ -2,6 +2,7 @@
 
 pub mod answers;
 mod bursts;
+mod hashes;
 mod shorten;
 
 pub use shorten::report;
@@ -51,6 +52,7 @@ pub fn difference(program: &Path, script: &Script, tally: &mut Tally) -> Option<
             continue;
         };
         answers::count(tally, line, &wanted);
+        hashes::count(tally, line, &wanted, &console.bench.filter());
         let got = written.next().unwrap_or(b"");
         if got != format!("{wanted}\n").as_bytes() {
             let got = match got {

@@ -35,6 +35,11 @@ impl Burst {
         })
     }
 
+    /// The bytes of each pair's frame, nothing for a pair outside the store.
+    pub fn frames(&self) -> impl Iterator<Item = Option<&[u8]>> {
+        self.pairs.iter().map(|pair| pair.of(&self.store))
+    }
+
     /// Makes the call; gives the line written for it.
     pub fn make(&self, bench: &mut Bench, lent: &mut [u8]) -> String {
         let mut answers = vec![BEFORE; self.room];

@@ -3,6 +3,7 @@
 use super::engine::{RECEIVE, SEND};
 use super::registers::{Name, Registers};
 use super::Bench;
+use crate::address::Filter;
 use crate::numbers::{DONE, REGISTER_NOT_MODELLED, WHILE_RUNNING};
 
 impl Bench {
@@ -38,12 +39,14 @@ impl Bench {
         status & self.registers.get(Name::InterruptEnable) != 0
     }
 
-    /// What the address filter goes by: MAC control, address high, address low.
-    pub fn filter(&self) -> (u32, u32, u32) {
-        (
-            self.registers.get(Name::MacControl),
-            self.registers.get(Name::AddressHigh),
-            self.registers.get(Name::AddressLow),
-        )
+    /// What the address filter goes by.
+    pub fn filter(&self) -> Filter {
+        Filter {
+            control: self.registers.get(Name::MacControl),
+            high: self.registers.get(Name::AddressHigh),
+            low: self.registers.get(Name::AddressLow),
+            hash_high: self.registers.get(Name::HashHigh),
+            hash_low: self.registers.get(Name::HashLow),
+        }
     }
 }

@@ -16,7 +16,7 @@ pub struct Pair {
 impl Pair {
     /// The bytes meant, or nothing for "a pair whose start plus length passes the store's end".
     /// A sum that needs more than 64 bits passes the end of every store.
-    fn of(self, store: &[u8]) -> Option<&[u8]> {
+    pub fn of(self, store: &[u8]) -> Option<&[u8]> {
         let end = self.start.checked_add(self.length)?;
         if end > store.len() as u64 {
             return None;

@@ -16,8 +16,7 @@ impl Bench {
         if !self.receiver.running {
             return NOT_RUNNING;
         }
-        let (control, high, low) = self.filter();
-        let turned_away = verdict::first_number(frame, control, high, low);
+        let turned_away = verdict::first_number(frame, &self.filter());
         if turned_away != DONE {
             return turned_away;
         }

@@ -1,4 +1,5 @@
-//! The nine modelled registers with their positions from chapter 8 of RM0006.
+//! The eleven modelled registers with their positions from chapter 8 of RM0006: nine of the base,
+//! and the two hash registers, which "leave row 2's reach".
 
 #[derive(Clone, Copy, Debug, PartialEq, Eq)]
 pub enum Name {
@@ -11,6 +12,8 @@ pub enum Name {
     MacControl,
     AddressHigh,
     AddressLow,
+    HashHigh,
+    HashLow,
 }
 
 /// Where a register stands, what it holds after reset and which bits a write reaches.
@@ -30,8 +33,11 @@ const fn form(name: Name, offset: u32, reset: u32, writable: u32) -> Form {
     }
 }
 
+/// How many registers are modelled.
+const COUNT: usize = 11;
+
 /// In the order of `Name`.
-pub const FORMS: [Form; 9] = [
+pub const FORMS: [Form; COUNT] = [
     form(Name::InterruptEnable, 0x004, 0x0000_0000, 0x92CF_82EF),
     form(Name::InterruptStatus, 0x008, 0x0005_0001, 0x92CF_82EF),
     form(Name::ReceiveStart, 0x010, 0x0000_0000, 0x00FF_FFE5),
@@ -41,6 +47,8 @@ pub const FORMS: [Form; 9] = [
     form(Name::MacControl, 0x400, 0x0000_0000, 0xC3FF_9FFD),
     form(Name::AddressHigh, 0x404, 0x0000_FFFF, 0x0000_FFFF),
     form(Name::AddressLow, 0x408, 0xFFFF_FFFF, 0xFFFF_FFFF),
+    form(Name::HashHigh, 0x40C, 0x0000_0000, 0xFFFF_FFFF),
+    form(Name::HashLow, 0x410, 0x0000_0000, 0xFFFF_FFFF),
 ];
 
 /// Status and enable bits that the base raises.
@@ -56,7 +64,7 @@ pub const DMA_ENABLE: u32 = 1 << 0;
 
 #[derive(Clone, Debug, PartialEq, Eq)]
 pub struct Registers {
-    values: [u32; 9],
+    values: [u32; COUNT],
 }
 
 impl Registers {

@@ -1,11 +1,14 @@
 //! Single calls with arguments worth trying.
 
 use super::writer::Writer;
+use crate::address::{BROADCAST, HASH_MODE};
 use crate::frames::{self, Destination, Ending};
-use crate::{address, hex};
+use crate::{groups, hex};
 
 /// The modelled offsets.
-pub const OFFSETS: [u32; 9] = [0x04, 0x08, 0x10, 0x1C, 0x30, 0x3C, 0x400, 0x404, 0x408];
+pub const OFFSETS: [u32; 11] = [
+    0x04, 0x08, 0x10, 0x1C, 0x30, 0x3C, 0x400, 0x404, 0x408, 0x40C, 0x410,
+];
 
 /// The most bytes of a frame that a line can name.
 const FRAME_MOST: usize = 2_045;
@@ -74,11 +77,7 @@ impl Writer {
 
     /// A frame of about this length for the bench as it stands, most often one that passes.
     pub fn frame_of(&mut self, length: usize) -> Vec<u8> {
-        let destination = match self.random.below(3) {
-            0 => Destination::Own,
-            1 => Destination::Broadcast,
-            _ => self.random.pick(&Destination::ALL),
-        };
+        let destination = self.destination();
         let ending = match self.random.below(6) {
             0 => self.random.pick(&Ending::ALL),
             _ => Ending::Right,
@@ -90,21 +89,36 @@ impl Writer {
 
     /// A frame that passes, whatever the filter registers hold.
     pub fn passing_frame(&mut self, length: usize) -> Vec<u8> {
-        let (control, high, low) = self.console.bench.filter();
-        let station = address::station(high, low);
-        let destination = match address::accepted(&station, control, high, low) {
-            true => self
-                .random
-                .pick(&[Destination::Own, Destination::Broadcast]),
-            false => Destination::Broadcast,
+        let filter = self.console.bench.filter();
+        let destination = match self.random.below(3) {
+            0 => filter.station(),
+            1 => groups::at_level(&filter, true, &mut self.random),
+            _ => BROADCAST,
+        };
+        let destination = match filter.accepts(&destination) {
+            true => destination,
+            false => BROADCAST,
         };
         self.frame_with(destination, Ending::Right, length)
     }
 
-    fn frame_with(&mut self, destination: Destination, ending: Ending, length: usize) -> Vec<u8> {
-        let (_, high, low) = self.console.bench.filter();
-        let station = address::station(high, low);
-        let destination = destination.make(station, &mut self.random);
+    /// A destination for the bench as it stands. Where the hash is asked, half of all are groups
+    /// that it takes or turns away.
+    fn destination(&mut self) -> [u8; 6] {
+        let filter = self.console.bench.filter();
+        if filter.mode() == HASH_MODE && self.random.once_in(2) {
+            let level = self.random.once_in(2);
+            return groups::at_level(&filter, level, &mut self.random);
+        }
+        let kind = match self.random.below(3) {
+            0 => Destination::Own,
+            1 => Destination::Broadcast,
+            _ => self.random.pick(&Destination::ALL),
+        };
+        kind.make(filter.station(), &mut self.random)
+    }
+
+    fn frame_with(&mut self, destination: [u8; 6], ending: Ending, length: usize) -> Vec<u8> {
         let message = frames::message(destination, length, &mut self.random);
         ending.make(&message, &mut self.random)
     }

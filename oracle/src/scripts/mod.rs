@@ -5,6 +5,7 @@ mod bursts;
 mod calls;
 mod chaos;
 mod damage;
+mod filters;
 pub mod hand_made;
 mod layout;
 mod malformed;
@@ -57,7 +58,7 @@ pub fn random_script(random: &mut Random) -> Script {
 pub fn started_ring(random: &mut Random, count: usize) -> (Bench, Vec<u8>, Vec<u32>) {
     let mut writer = Writer::new(random.draw());
     let ring = layout::sound_ring(&mut writer, count);
-    writer.set_station();
+    writer.set_filter();
     receiving::start(&mut writer, ring[0].address);
     let mut memory = writer.console.memory;
     memory.truncate(writer.console.bench.window.length as usize);

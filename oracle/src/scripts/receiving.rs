@@ -13,7 +13,7 @@ pub fn on_a_sound_ring(writer: &mut Writer) {
     let ring = layout::sound_ring(writer, count);
     let first = ring[0].address;
     writer.say(format!("ring {count} {first:x}"));
-    writer.set_station();
+    writer.set_filter();
     start(writer, first);
     writer.observe();
     let mut granted = 0;
@@ -22,25 +22,6 @@ pub fn on_a_sound_ring(writer: &mut Writer) {
     }
     writer.observe();
     writer.say(format!("ring {count} {first:x}"));
-}
-
-impl Writer {
-    /// Filter registers of every kind.
-    pub fn set_station(&mut self) {
-        let low = self.random.word();
-        let high = self.random.word();
-        self.say(format!("write 408 {low:x}"));
-        self.say(format!("write 404 {high:x}"));
-        let mode = self.random.pick(&[0, 0, 1, 2, 3, 4, 5, 5, 6, 7]);
-        let mut control = mode << 17;
-        if self.random.once_in(6) {
-            control |= 1 << 31;
-        }
-        if self.random.once_in(3) {
-            control |= self.random.word() & 0x7FF1_FFFF;
-        }
-        self.say(format!("write 400 {control:x}"));
-    }
 }
 
 pub fn start(writer: &mut Writer, first: u32) {
@@ -59,7 +40,7 @@ fn step(writer: &mut Writer, ring: &[Place], granted: &mut usize) {
         let place = writer.console.bench.receiver.place;
         start(writer, place);
     }
-    match writer.random.below(26) {
+    match writer.random.below(28) {
         0..=7 => {
             let place = writer.console.bench.receiver.place;
             writer.frame();
@@ -100,6 +81,7 @@ fn step(writer: &mut Writer, ring: &[Place], granted: &mut usize) {
         21 if writer.random.once_in(2) => end_of_chain(writer, ring),
         22 => writer.any(),
         23 | 24 => writer.burst_and_look(),
+        25 | 26 => writer.change_filter(),
         _ => writer.observe(),
     }
 }

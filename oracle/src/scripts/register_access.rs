@@ -3,8 +3,8 @@
 use super::calls::OFFSETS;
 use super::writer::Writer;
 
-/// Registers of chapter 8 that are not modelled, and offsets past its end.
-const OTHERS: [u32; 22] = [
+/// Registers of chapter 8 that are not modelled, and offsets beside the modelled ones or past its end.
+const OTHERS: [u32; 24] = [
     0x00,
     0x0C,
     0x14,
@@ -21,8 +21,10 @@ const OTHERS: [u32; 22] = [
     0x4C,
     0x100,
     0x200,
-    0x40C,
-    0x410,
+    0x40B,
+    0x40D,
+    0x40F,
+    0x411,
     0x414,
     0x42C,
     0x430,

@@ -1,46 +1,17 @@
 //! Random and boundary frames for the comparison.
 
 use crate::compare::Comparison;
+use crate::{expected, filters};
 use oracle::frames::{self, Destination, Ending};
 use oracle::random::Random;
-use oracle::{address, check, verdict};
+use oracle::{check, verdict};
 
 /// How many random frames are compared.
-const FRAMES: usize = 24_000;
+const FRAMES: usize = 60_000;
 /// One frame in this many also goes through the verdict program.
-const SHARE: usize = 8;
+const SHARE: usize = 20;
 /// One frame in this many of those arrives in two pieces.
 const PIECES: usize = 20;
-
-/// The kinds that a whole run must have met.
-pub fn expect(comparison: &mut Comparison) {
-    let tally = &mut comparison.tally;
-    for destination in Destination::ALL {
-        tally.expect(format!("destination {destination:?}"));
-    }
-    for ending in Ending::ALL {
-        tally.expect(format!("check sequence {ending:?}"));
-    }
-    for mode in 0..8 {
-        for receive_all in [false, true] {
-            tally.expect(mode_name(mode, receive_all));
-        }
-    }
-    for answer in 0..2 {
-        tally.expect(format!("C frame check {answer}"));
-        tally.expect(format!("C address rule {answer}"));
-    }
-    for number in [0, 4, 5, 6] {
-        tally.expect(format!("program verdict {number}"));
-    }
-    tally.expect("program input in two pieces");
-    tally.expect("high register with reserved bits set");
-}
-
-fn mode_name(mode: u32, receive_all: bool) -> String {
-    let all = if receive_all { "on" } else { "off" };
-    format!("filter mode {mode}, receive-all {all}")
-}
 
 /// Random and damaged frames: the C functions on all, the verdict program on a share.
 pub fn random_frames(comparison: &mut Comparison, random: &mut Random) -> Result<(), String> {
@@ -56,7 +27,11 @@ pub fn random_frames(comparison: &mut Comparison, random: &mut Random) -> Result
             0 => Ending::Right,
             _ => random.pick(&Ending::ALL),
         };
-        let destination = random.pick(&Destination::ALL);
+        // And many are to a group, of which the hash may be asked.
+        let destination = match random.below(3) {
+            0 => Destination::Group,
+            _ => random.pick(&Destination::ALL),
+        };
         let length = frames::length(random);
         let message = frames::message(destination.make(station, random), length, random);
         let frame = ending.make(&message, random);
@@ -86,7 +61,7 @@ fn random_station(random: &mut Random) -> [u8; 6] {
     station
 }
 
-/// Both C functions on one frame, the address rule with one random control word.
+/// Both C functions on one frame, the address rule with one set of filter registers.
 fn functions(
     comparison: &mut Comparison,
     frame: &[u8],
@@ -94,24 +69,12 @@ fn functions(
     random: &mut Random,
 ) -> Result<(), String> {
     comparison.frame_check(frame, check::right(frame).into())?;
-    let mode = random.below(8) as u32;
-    let receive_all = random.once_in(4);
-    let mut control = mode << address::FILTER_MODE_SHIFT;
-    if receive_all {
-        control |= address::RECEIVE_ALL;
+    let filter = filters::random_filter(frame, station, random, &mut comparison.tally);
+    let accepted = filter.accepts(frame);
+    if filter.asks_hash(frame) {
+        comparison.tally.met(expected::by_hash_name(accepted));
     }
-    if random.once_in(2) {
-        let filter = address::RECEIVE_ALL | 0b111 << address::FILTER_MODE_SHIFT;
-        control |= random.word() & !filter;
-    }
-    let (mut high, low) = address::registers(station);
-    if random.once_in(16) {
-        comparison.tally.met("high register with reserved bits set");
-        high |= random.word() << 16 | 1 << 16;
-    }
-    comparison.tally.met(mode_name(mode, receive_all));
-    let accepted = address::accepted(frame, control, high, low);
-    comparison.address_rule(frame, control, high, low, accepted.into())
+    comparison.address_rule(frame, &filter, accepted.into())
 }
 
 /// The verdict program at every boundary length, with each kind of destination and check sequence.

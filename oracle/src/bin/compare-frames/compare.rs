@@ -1,6 +1,7 @@
 //! One comparison of each kind; a difference is told with all that is needed to see it again.
 
 use crate::host;
+use oracle::address::Filter;
 use oracle::tally::Tally;
 use oracle::{hex, program, verdict};
 use std::path::PathBuf;
@@ -30,19 +31,25 @@ impl Comparison {
     pub fn address_rule(
         &mut self,
         frame: &[u8],
-        control: u32,
-        high: u32,
-        low: u32,
+        filter: &Filter,
         wanted: u32,
     ) -> Result<(), String> {
         self.tally.met(format!("C address rule {wanted}"));
-        let got = host::address_rule(frame, control, high, low);
+        let got = host::address_rule(frame, filter);
         if got == wanted {
             return Ok(());
         }
+        let Filter {
+            control,
+            high,
+            low,
+            hash_high,
+            hash_low,
+        } = filter;
         Err(format!(
             "tockfeather_address_rule gives {got}, not {wanted}\n\
-             control {control:08x} high {high:08x} low {low:08x}\nframe of {}: {}",
+             control {control:08x} high {high:08x} low {low:08x} \
+             hash high {hash_high:08x} hash low {hash_low:08x}\nframe of {}: {}",
             frame.len(),
             hex::write(frame)
         ))

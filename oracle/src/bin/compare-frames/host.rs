@@ -2,6 +2,8 @@
 
 #![allow(unsafe_code)]
 
+use oracle::address::Filter;
+
 mod library {
     #[link(name = "tockfeather", kind = "static")]
     extern "C" {
@@ -12,6 +14,8 @@ mod library {
             control: u32,
             high: u32,
             low: u32,
+            hash_high: u32,
+            hash_low: u32,
         ) -> u32;
     }
 }
@@ -23,7 +27,17 @@ pub fn frame_check(frame: &[u8]) -> u32 {
 }
 
 /// 1 if a station with these registers takes the frame, 0 if not.
-pub fn address_rule(frame: &[u8], control: u32, high: u32, low: u32) -> u32 {
+pub fn address_rule(frame: &[u8], filter: &Filter) -> u32 {
     // SAFETY: as above; the other arguments are numbers.
-    unsafe { library::tockfeather_address_rule(frame.as_ptr(), frame.len(), control, high, low) }
+    unsafe {
+        library::tockfeather_address_rule(
+            frame.as_ptr(),
+            frame.len(),
+            filter.control,
+            filter.high,
+            filter.low,
+            filter.hash_high,
+            filter.hash_low,
+        )
+    }
 }

@@ -1,6 +1,7 @@
 //! What is claimed of a history, frame by frame and as a whole.
 
 use crate::history::History;
+use oracle::numbers::{DONE, FRAME_ADDRESS};
 use oracle::verdict;
 
 /// What a comparison of two histories goes by, receive by receive: the grants made before it, and
@@ -14,11 +15,11 @@ pub struct Mark {
 impl History<'_> {
     /// Holds the frames of one call, which has just ended, and their answers against the claims.
     pub fn ended(&mut self, kind: &str, met: &[(&[u8], u32)]) -> Result<(), String> {
-        // No call of a history changes these, so that they are those at each receive's start.
-        let (control, high, low) = self.now.bench.filter();
+        // "A frame passes if its bytes and the registers at the start bring none of 4, 5 and 6."
+        let filter = self.start.bench.filter();
         let mut delivered = Vec::new();
         for (frame, answer) in met {
-            let turned_away = verdict::first_number(frame, control, high, low);
+            let turned_away = verdict::first_number(frame, &filter);
             let all_used = self.delivered == self.grants;
             let wanted = match (turned_away, all_used) {
                 (0, true) => 8,
@@ -27,6 +28,13 @@ impl History<'_> {
             };
             if *answer != wanted {
                 return Err(format!("a {kind} is answered {answer}, not {wanted}"));
+            }
+            if filter.asks_hash(frame) {
+                match turned_away {
+                    DONE => self.tally.met(format!("{kind} passing by hash")),
+                    FRAME_ADDRESS => self.tally.met(format!("{kind} turned away by hash")),
+                    _ => {}
+                }
             }
             match answer {
                 0 => {
@@ -66,6 +74,15 @@ impl History<'_> {
             return Err(format!("frame {place} has another length"));
         }
         Ok(())
+    }
+
+    /// The firmware writes "no register but the interrupt ones", so that the filter's are those of the
+    /// start, the hash registers too.
+    pub fn keeps_the_filter(&self) -> Result<(), String> {
+        match self.now.bench.filter() == self.start.bench.filter() {
+            true => Ok(()),
+            false => Err("a filter register was written".to_string()),
+        }
     }
 
     /// "State, window and answers equal those of single receives": the whole history is made again

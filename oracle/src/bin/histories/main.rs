@@ -5,6 +5,7 @@ mod arrivals;
 mod burst;
 mod bursts;
 mod claims;
+mod expected;
 mod history;
 mod sequence;
 mod start;
@@ -22,34 +23,9 @@ use std::process::ExitCode;
 /// Pairs of histories with one sequence of frames.
 const PAIRS: u64 = 2_500;
 
-/// Kinds without which the claims would have said nothing.
-const EXPECTED: [&str; 21] = [
-    "frame delivered",
-    "frame lost",
-    "frame turned away",
-    "frame in a burst delivered",
-    "frame in a burst lost",
-    "frame in a burst turned away",
-    "burst",
-    "burst of no pairs",
-    "burst of 64 pairs",
-    "burst in which the grants run out",
-    "burst refused: over 64 pairs",
-    "burst refused: another answer list",
-    "pair outside the store",
-    "history made again by single receives",
-    "grant",
-    "grant refused in ring order",
-    "grant refused at any address",
-    "register write refused",
-    "firmware write",
-    "pair with never fewer grants: more delivered",
-    "pair with never fewer grants: as many delivered",
-];
-
 fn main() -> ExitCode {
     let mut tally = Tally::default();
-    EXPECTED.iter().for_each(|kind| tally.expect(*kind));
+    expected::expect(&mut tally);
     for seed in 0..PAIRS {
         if let Err(fault) = pair(seed, &mut tally) {
             println!("histories: pair {seed}: {fault}");
@@ -57,9 +33,9 @@ fn main() -> ExitCode {
         }
     }
     print!("{tally}");
-    let missing = tally.under(1);
+    let missing = tally.missing(expected::least);
     if !missing.is_empty() {
-        println!("histories: never met: {}", missing.join("; "));
+        println!("histories: met too seldom: {}", missing.join("; "));
         return ExitCode::FAILURE;
     }
     println!("histories: {} histories, every claim held", 2 * PAIRS);
@@ -70,6 +46,7 @@ fn main() -> ExitCode {
 fn pair(seed: u64, tally: &mut Tally) -> Result<(), String> {
     let mut random = Random::new(seed);
     let start = Start::new(&mut random)?;
+    tally.met(expected::start_name(start.bench.filter().mode()));
     let frames = sequence::sequence(&start, &mut random);
     let mut arrivals = arrivals::cut(frames.len(), &mut random);
     let first = single(&start, &frames, &arrivals, &[], &mut random, tally)?;
@@ -118,6 +95,7 @@ fn single(
         left = later;
     }
     history.other_steps(random, eagerness);
+    history.keeps_the_filter()?;
     history.equals_single_receives()?;
     Ok(history.marks)
 }

@@ -1,8 +1,9 @@
 //! The sequence of frames that histories meet.
 
 use crate::start::Start;
-use oracle::address;
+use oracle::address::{Filter, HASH_MODE};
 use oracle::frames::{self, Destination, Ending};
+use oracle::groups;
 use oracle::random::Random;
 
 pub fn sequence(start: &Start, random: &mut Random) -> Vec<Vec<u8>> {
@@ -33,12 +34,7 @@ fn again(frame: &[u8], random: &mut Random) -> Vec<u8> {
 
 /// A frame for the start's filter registers, most often one that passes.
 fn frame(start: &Start, random: &mut Random) -> Vec<u8> {
-    let (_, high, low) = start.bench.filter();
-    let destination = match random.below(3) {
-        0 => random.pick(&Destination::ALL),
-        1 => Destination::Broadcast,
-        _ => Destination::Own,
-    };
+    let destination = destination(&start.bench.filter(), random);
     let ending = match random.below(8) {
         0 => random.pick(&Ending::ALL),
         _ => Ending::Right,
@@ -48,7 +44,20 @@ fn frame(start: &Start, random: &mut Random) -> Vec<u8> {
         1 => random.pick(&[64, 1_518]),
         _ => random.between(64, 300),
     };
-    let destination = destination.make(address::station(high, low), random);
     let message = frames::message(destination, length, random);
     ending.make(&message, random)
+}
+
+/// Where the hash is asked, half of all frames are to groups that it takes or turns away.
+fn destination(filter: &Filter, random: &mut Random) -> [u8; 6] {
+    if filter.mode() == HASH_MODE && random.once_in(2) {
+        let level = random.once_in(2);
+        return groups::at_level(filter, level, random);
+    }
+    let kind = match random.below(3) {
+        0 => random.pick(&Destination::ALL),
+        1 => Destination::Broadcast,
+        _ => Destination::Own,
+    };
+    kind.make(filter.station(), random)
 }

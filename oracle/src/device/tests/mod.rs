@@ -1,6 +1,7 @@
 //! Examples worked out by hand from the rules.
 
 mod bursts;
+mod by_hash;
 mod grants;
 mod marked;
 mod readings;
@@ -25,6 +26,9 @@ const RX_START: u32 = 0x10;
 const RX_NEXT: u32 = 0x1C;
 const TX_START: u32 = 0x30;
 const TX_NEXT: u32 = 0x3C;
+const CONTROL: u32 = 0x400;
+const HASH_HIGH: u32 = 0x40C;
+const HASH_LOW: u32 = 0x410;
 
 /// The status register after reset.
 const RESET_STATUS: u32 = 0x0005_0001;

@@ -14,7 +14,7 @@ pub fn along_a_chain(writer: &mut Writer) {
     let size = writer.random.pick(&[72, 72, 80, 120, 1_520]).min(fitting);
     let slack = 4 * writer.random.below(20);
     writer.new_bench((count * (16 + size) + slack) as u32);
-    writer.set_station();
+    writer.set_filter();
     for _ in 0..writer.random.between(4, 12) {
         let mut chain = chain(writer, count, size as u32);
         if !writer.random.once_in(4) {
@@ -29,10 +29,14 @@ pub fn along_a_chain(writer: &mut Writer) {
         receiving::start(writer, chain[0].address);
         writer.marks = chain.iter().map(|place| place.address).collect();
         burst(writer, count);
-        match writer.random.below(6) {
+        match writer.random.below(7) {
             0 => writer.lend_wrong(),
             1 => writer.observe(),
             2 => writer.any(),
+            3 => {
+                writer.change_filter();
+                burst(writer, count);
+            }
             _ => burst(writer, count),
         }
     }

@@ -10,11 +10,11 @@ pub fn on_a_ring(writer: &mut Writer) {
         _ => writer.random.between(1, 8),
     };
     let ring = layout::sound_ring(writer, count);
-    writer.set_station();
+    writer.set_filter();
     receiving::start(writer, ring[0].address);
     let mut granted = 0;
     for _ in 0..writer.random.between(8, 24) {
-        match writer.random.below(10) {
+        match writer.random.below(11) {
             // A short burst seldom comes far along a long ring.
             0 | 1 if count <= 8 => {
                 damaged(writer, &ring);
@@ -27,6 +27,10 @@ pub fn on_a_ring(writer: &mut Writer) {
             }
             4 => writer.any(),
             5 => writer.observe(),
+            6 => {
+                writer.change_filter();
+                writer.burst_and_look();
+            }
             _ => {
                 grant(writer, &ring, &mut granted);
                 writer.burst_and_look();

@@ -1,6 +1,7 @@
 //! Scripts for the marked cases and for the errors that look right.
 
 mod bursts;
+mod hashes;
 
 use crate::compare::Script;
 use crate::{check, hex};
@@ -21,7 +22,7 @@ const ALMOST: [u8; 6] = [0xFF, 0xFF, 0xFF, 0xFF, 0xFF, 0xFE];
 /// All state, as the console can show it.
 const LOOK: &str =
     "state\ncheck\nline\nread 4\nread 8\nread 10\nread 1c\nread 30\nread 3c\nread 400\n\
-                    read 404\nread 408\n";
+                    read 404\nread 408\nread 40c\nread 410\n";
 
 pub fn scripts() -> Vec<Script> {
     let texts = [
@@ -37,6 +38,10 @@ pub fn scripts() -> Vec<Script> {
         bursts::many(),
         bursts::foreign_descriptor(),
         bursts::before_any_new(),
+        hashes::registers(),
+        hashes::one_bit_tables(),
+        hashes::filter_modes(),
+        hashes::in_a_burst(),
     ];
     texts
         .iter()

@@ -1,0 +1,33 @@
+//! The vectors of the hash, held against the model's C function in every filter mode.
+
+use crate::compare::Comparison;
+use oracle::address::{Filter, ALL_MULTICAST_MODE, FILTER_MODE_SHIFT, HASH_MODE};
+use oracle::hash_vectors::VECTORS;
+use oracle::verdict::STATION;
+
+/// Each vector with each table of one bit, and of all bits but one. What must come out goes by the
+/// index that stands in the vector.
+pub fn compare(comparison: &mut Comparison) -> Result<(), String> {
+    for (destination, _, index) in VECTORS {
+        for bit in 0..64 {
+            let own = bit == index;
+            for (table, held) in [(1 << bit, own), (!(1 << bit), !own)] {
+                for mode in 0..8 {
+                    let filter = Filter {
+                        control: mode << FILTER_MODE_SHIFT,
+                        ..Filter::of_station(STATION).with_table(table)
+                    };
+                    let wanted = match mode {
+                        _ if destination == [0xFF; 6] => true,
+                        ALL_MULTICAST_MODE => true,
+                        HASH_MODE => held,
+                        _ => false,
+                    };
+                    comparison.tally.met("hash vector in a filter mode");
+                    comparison.address_rule(&destination, &filter, wanted.into())?;
+                }
+            }
+        }
+    }
+    Ok(())
+}

@@ -1,0 +1,61 @@
+//! What a whole run must have met, or the claims would have said too little.
+
+use oracle::tally::Tally;
+
+/// Met once at least.
+const ONCE: [&str; 21] = [
+    "frame delivered",
+    "frame lost",
+    "frame turned away",
+    "frame in a burst delivered",
+    "frame in a burst lost",
+    "frame in a burst turned away",
+    "burst",
+    "burst of no pairs",
+    "burst of 64 pairs",
+    "burst in which the grants run out",
+    "burst refused: over 64 pairs",
+    "burst refused: another answer list",
+    "pair outside the store",
+    "history made again by single receives",
+    "grant",
+    "grant refused in ring order",
+    "grant refused at any address",
+    "register write refused",
+    "firmware write",
+    "pair with never fewer grants: more delivered",
+    "pair with never fewer grants: as many delivered",
+];
+
+/// Group frames about which the hash decided.
+const BY_HASH: [&str; 4] = [
+    "frame passing by hash",
+    "frame turned away by hash",
+    "frame in a burst passing by hash",
+    "frame in a burst turned away by hash",
+];
+const BY_HASH_LEAST: usize = 1_000;
+
+/// Starts in each filter mode.
+const START_LEAST: usize = 50;
+
+pub fn start_name(mode: u32) -> String {
+    format!("start in filter mode {mode}")
+}
+
+pub fn expect(tally: &mut Tally) {
+    ONCE.iter().for_each(|kind| tally.expect(*kind));
+    BY_HASH.iter().for_each(|kind| tally.expect(*kind));
+    (0..8).for_each(|mode| tally.expect(start_name(mode)));
+}
+
+/// How often a kind must be met.
+pub fn least(kind: &str) -> usize {
+    if BY_HASH.contains(&kind) {
+        BY_HASH_LEAST
+    } else if (0..8).any(|mode| start_name(mode) == kind) {
+        START_LEAST
+    } else {
+        1
+    }
+}
