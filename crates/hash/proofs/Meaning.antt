@@ -12,7 +12,6 @@ use lib.ListN.{length, take}
 use lib.Pow.{pow-pos, shr-shr, high, low, field, mod-mod-pow}
 use lib.Seq.{length-take-le}
 use Rattle.rules.specs.Bit.{bit}
-use Rattle.rules.specs.Choice.{if_then_else_}
 use Rattle.rules.proofs.Choices.{by-test}
 use Rattle.fcs.specs.Polynomial.{generator, remainder, registerBits}
 use Rattle.fcs.proofs.Register.{length-register}

@@ -9,7 +9,6 @@ use Rattle.rules.specs.Choice.{if_then_else_}
 use Rattle.fcs.specs.Bytes.{same}
 use Rattle.hash.specs.Hash.{hashAccepts}
 use Rattle.hash.proofs.Meaning.{ones-accept, zeros-refuse}
-use Rattle.filter.specs.declared.Filter.{Filter}
 use Rattle.filter.specs.Address.{destination, broadcast, toGroup, stationAddress, acceptsGroup, accepts}
 use Rattle.modes.specs.Modes.{HashAcceptsAs, OnesAsAllMulticast, ZerosAsNoMulticast}
 
