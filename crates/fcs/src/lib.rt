@@ -1,18 +1,7 @@
-// The frame check sequence of IEEE 802.3, computed bit by bit.
+// The frame check sequence of IEEE 802.3.
 ghost use mathlib.Core.Path.{_≡_};
 ghost use Prim.Native.Nat.{_<_};
 ghost use Rattle.fcs.specs.CheckSequence.{checkNumber, checkRight, room, closed};
-ghost use Rattle.fcs.specs.ShiftRegister.{step, byteIn};
-
-// The generator without x^32, the coefficient of x^31 in the least significant bit.
-const REFLECTED: u32 = 0xedb8_8320;
-
-// One clock of the shift register.
-fn step(r: u32) -> u32
-    ensures { λ x. ⌜ x ≡ step r ⌝ }
-{
-    (r >> 1) ^ (r % 2 * REFLECTED)
-}
 
 // A byte as a number. That it is below 256 is said for the callers' sums.
 fn wide(b: u8) -> u32
@@ -21,25 +10,11 @@ fn wide(b: u8) -> u32
     b as u32
 }
 
-// A byte enters, its least significant bit first. Its eight bits are added at once: each then waits
-// in the register for the clock at which it leaves.
-fn byte_in(r: u32, b: u8) -> u32
-    ensures { λ x. ⌜ x ≡ byteIn r b ⌝ }
-{
-    step(step(step(step(step(step(step(step(r ^ wide(b)))))))))
-}
-
 // The check of a message, its first bit on the wire the least significant.
 pub fn check_number(bytes: &[u8]) -> u32
     ensures { λ r. ⌜ r ≡ checkNumber (now (bytes .entry)) ⌝ }
 {
-    let mut r: u32 = 0xffff_ffff;
-    let mut i = 0;
-    while i < bytes.len() {
-        r = byte_in(r, bytes[i]);
-        i += 1;
-    }
-    !r
+    !half_bytes::bytes_in(0xffff_ffff, bytes)
 }
 
 // Whether the last four bytes of a frame are the check sequence of those before.
