@@ -1,19 +1,13 @@
-# The benchmark (docs/PERFORMANCE.md). zlib is a second opponent where it is installed.
+# The benchmark (docs/PERFORMANCE.md). zlib, clang and the code of an earlier commit are opponents where they are there.
 BENCHMARK = target/benchmark
+# The commit whose proved code is measured beside this one's: the last with the check sequence bit by bit. Empty: none.
+BEFORE ?= 6ea528f
 
 .PHONY: benchmark
 
 benchmark:
 	@tools/progress rt staticlib speed
 	@tools/progress rt staticlib burst_speed
-	mkdir -p $(BENCHMARK)
-	gcc $(WARNINGS) -c benchmark/model.c -o $(BENCHMARK)/bitwise.o
-	if echo '#include <zlib.h>' | gcc -E - >/dev/null 2>&1; then \
-	    gcc $(WARNINGS) -DWITH_ZLIB -c benchmark/model.c -o $(BENCHMARK)/zlib.o && \
-	    gcc $(WARNINGS) -DWITH_ZLIB benchmark/main.c $(BENCHMARK)/bitwise.o $(BENCHMARK)/zlib.o \
-	        target/staticlib/libspeed.a target/staticlib/libburst_speed.a -lz -o $(BENCHMARK)/benchmark; \
-	else \
-	    gcc $(WARNINGS) benchmark/main.c $(BENCHMARK)/bitwise.o \
-	        target/staticlib/libspeed.a target/staticlib/libburst_speed.a -o $(BENCHMARK)/benchmark; \
-	fi
+	@tools/progress rt staticlib tockfeather
+	benchmark/build $(BENCHMARK) '$(BEFORE)' $(WARNINGS)
 	$(BENCHMARK)/benchmark

@@ -1,0 +1,62 @@
+#define _POSIX_C_SOURCE 199309L
+
+#include <string.h>
+#include <time.h>
+
+#include "setting.h"
+
+uint8_t memory[WINDOW];
+uint8_t output[OUTPUT];
+uint8_t frame[FRAME];
+
+void store(uint8_t *at, uint32_t word)
+{
+    for (int i = 0; i < 4; i++)
+        at[i] = (uint8_t)(word >> 8 * i);
+}
+
+void fill(uint8_t *bytes, size_t length, uint32_t seed)
+{
+    for (size_t i = 0; i < length; i++) {
+        seed = seed * 1664525 + 1013904223;
+        bytes[i] = (uint8_t)(seed >> 24);
+    }
+}
+
+void prepare(uint32_t control, uint32_t start)
+{
+    fill(memory, sizeof memory, 1);
+    fill(output, sizeof output, 2);
+    store(memory, control);
+    store(memory + 4, start);
+    store(memory + 8, 0);
+    store(memory + 12, 0);
+}
+
+void make_frame(size_t length, uint8_t last)
+{
+    const uint8_t destination[6] = {0x02, 0, 0, 0, 0, last};
+    uint32_t crc = UINT32_C(0xFFFFFFFF);
+
+    fill(frame, length, 3);
+    memcpy(frame, destination, sizeof destination);
+    for (size_t bit = 0; bit < 8 * (length - 4); bit++) {
+        uint32_t leaves = (crc ^ frame[bit / 8] >> bit % 8) & 1;
+        crc = crc >> 1 ^ (leaves ? UINT32_C(0xEDB88320) : 0);
+    }
+    store(frame + length - 4, ~crc);
+}
+
+double seconds(void)
+{
+    struct timespec now;
+
+    clock_gettime(CLOCK_PROCESS_CPUTIME_ID, &now);
+    return (double)now.tv_sec + (double)now.tv_nsec * 1e-9;
+}
+
+void keep_best(double *best, double now)
+{
+    if (now > *best)
+        *best = now;
+}

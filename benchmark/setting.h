@@ -1,0 +1,42 @@
+/*
+ * What the measurements share: the lent memory and output, a frame, and the
+ * clock.
+ */
+#ifndef SETTING_H
+#define SETTING_H
+
+#include <stddef.h>
+#include <stdint.h>
+
+#define WINDOW 65536
+#define SMALL_WINDOW 4096
+#define OUTPUT 1518
+
+/* The longest message whose check is measured, and its check sequence. */
+#define FRAME (OUTPUT + 4)
+
+/* A descriptor at address 0, its buffer behind it. */
+#define BUFFER 16
+#define LINKED UINT32_C(0x4000)
+
+extern uint8_t memory[WINDOW];
+extern uint8_t output[OUTPUT];
+extern uint8_t frame[FRAME];
+
+void store(uint8_t *at, uint32_t word);
+void fill(uint8_t *bytes, size_t length, uint32_t seed);
+
+/* The same bytes in memory and output before each call, and in the memory a
+ * ring of one descriptor. */
+void prepare(uint32_t control, uint32_t start);
+
+/* A frame of any length from 10 on, its check sequence right, for the station
+ * whose address ends in `last`. */
+void make_frame(size_t length, uint8_t last);
+
+/* Processor time. */
+double seconds(void);
+
+void keep_best(double *best, double now);
+
+#endif
