@@ -104,7 +104,7 @@ static double measure_burst(size_t length)
         keep_best(&singles, single);
     }
     qsort(ratios, BURST_TURNS, sizeof ratios[0], by_size);
-    printf("%-8s %6zu %14.0f %14.0f %11.2f\n", "burst", length, in_one_call, singles,
+    printf("%-8s %6zu %14.0f %14.0f %11.3f\n", "burst", length, in_one_call, singles,
            ratios[BURST_TURNS / 2]);
     return ratios[BURST_TURNS / 2];
 }
@@ -132,5 +132,5 @@ void measure_bursts(void)
         if (least == 0 || ratio < least)
             least = ratio;
     }
-    printf("\nleast ratio: %.2f; the goal is 1.00\n", least);
+    printf("\nleast ratio: %.3f; the goal is 1.00\n", least);
 }

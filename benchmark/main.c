@@ -45,6 +45,7 @@ static const struct {
     {"(c)", "C, half bytes, gcc -O2", &half_bytes_gcc, 0.95},
 #ifdef WITH_CLANG
     {"(d)", "C, half bytes, clang -O2", &half_bytes_clang, 0.95},
+    {"(e)", "C, bit by bit, clang -O2", &bit_by_bit_clang, 0},
 #endif
 };
 #define CONTESTANTS (sizeof contestants / sizeof contestants[0])
@@ -214,13 +215,14 @@ static void measure(struct row *row)
     for (int t = 0; t < TURNS; t++) {
         for (size_t k = 0; k < CONTESTANTS; k++)
             keep_best(&row->best[k], turn(contestants[k].model, row->call, WINDOW, row->size));
-        keep_best(&row->small, turn(&proved, row->call, SMALL_WINDOW, row->size));
+        if (row->call != CHECK)
+            keep_best(&row->small, turn(&proved, row->call, SMALL_WINDOW, row->size));
     }
 }
 
 static void print_rates(const struct row *rows)
 {
-    printf("calls a second, best of %d turns; check: of a message of so many bytes alone\n"
+    printf("calls a second, best of %d turns; bytes: of the message for check, on the wire for the others\n"
            "%-8s %6s", TURNS, "call", "bytes");
     for (size_t k = 0; k < CONTESTANTS; k++)
         printf(" %10s", contestants[k].name);
@@ -246,19 +248,19 @@ static void print_ratios(const struct row *rows)
         printf("%-8s %6zu", calls[rows[i].call], rows[i].size);
         for (size_t k = 1; k < CONTESTANTS; k++) {
             double ratio = rows[i].best[0] / rows[i].best[k];
-            printf(" %10.2f", ratio);
+            printf(" %10.3f", ratio);
             if (i == 0 || ratio < least[k])
                 least[k] = ratio;
         }
         if (rows[i].call == CHECK)
             printf("\n");
         else
-            printf(" %10.2f\n", rows[i].best[0] / rows[i].small);
+            printf(" %10.3f\n", rows[i].best[0] / rows[i].small);
     }
     printf("\n");
     for (size_t k = 1; k < CONTESTANTS; k++)
         if (contestants[k].goal > 0)
-            printf("least over %-8s %.2f; the goal is %.2f\n", contestants[k].name, least[k],
+            printf("least over %-8s %.3f; the goal is %.2f\n", contestants[k].name, least[k],
                    contestants[k].goal);
 }
 

@@ -57,6 +57,6 @@ uint32_t speed_burst(uint8_t *memory, size_t memory_length,
                      uint32_t *answers, size_t answers_length);
 
 /* model.c, by its check and its compiler */
-extern const struct contestant bit_by_bit_gcc, half_bytes_gcc, half_bytes_clang, zlib_gcc;
+extern const struct contestant bit_by_bit_gcc, zlib_gcc, half_bytes_gcc, half_bytes_clang, bit_by_bit_clang;
 
 #endif

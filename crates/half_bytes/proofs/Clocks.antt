@@ -1,5 +1,5 @@
 -- Single-bit steps only move what lies above the bits that leave. Assumes nothing.
-use mathlib.Core.Path.{_≡_, refl, sym, ap, ap₂, _∙_}
+use mathlib.Core.Path.{_≡_, sym, ap, ap₂, _∙_}
 use Prim.Native.Nat.{ℕ, zero, suc, _*_, _/_, _%_, _^_}
 use native.Mathlib.Nat.{mod-lt, mul-div-cancel, mul-mod-left, mul-one, mul-assoc, pow-suc, zero-lt-suc}
 use lib.Bits.{bitXor, xor-shr, xor-mod, xor-shifted}

@@ -26,7 +26,7 @@ unfolding halfBytes
 entry f k h = tabulate-at (clocks f 4) 0 16 k h ∙ ap (clocks f 4) (zero-add k)
 
 -- The low half bytes of the entries, by computation. The lowest bit of the feedback is the sixth (x^26): when it has been added, it comes down into the low
--- half byte by the fourth step only where a 1 left at the first or the second.
+-- half byte by the fourth step only where a 1 left at the first or the second. The next bit, the ninth (x^23), comes down to the sixth at most.
 low-halves : tabulate (λ i. clocks feedback802 4 i % 16) 0 16 ≡ tabulate (λ i. i % 4 * 4) 0 16
 unfolding clocks clock
 low-halves = refl
@@ -49,6 +49,7 @@ unfolding clocks
 eight f r = refl
 
 module _ (x : ℕ) where
+  -- the entry of the low half byte
   abbrev low : ℕ
   low = getD (halfBytes feedback802) (x % 16) 0
 

@@ -30,8 +30,8 @@ fn table() -> [u32; 16]
 
 // A byte enters: both half bytes are added to the register at once, and the low one leaves first. Of its
 // entry the low half byte is four times the two low bits of the index; so the index of the next entry is
-// known without it, and the two are read side by side. In another order of the terms the machine code is
-// slower (docs/PERFORMANCE.md).
+// known without it, and the two are read side by side. The order of the terms is the fastest that was
+// found (docs/PERFORMANCE.md).
 fn byte_in(t: &[u32; 16], r: u32, b: u8) -> u32
     requires { ⌜ now t ≡ halfBytes feedback802 ⌝ }
     ensures { λ x. ⌜ x ≡ clocks feedback802 8 (bitXor r b) ⌝ }
@@ -41,7 +41,7 @@ fn byte_in(t: &[u32; 16], r: u32, b: u8) -> u32
     above ^ t[(((x >> 4) ^ (x % 4 * 4)) % 16) as usize]
 }
 
-// The table is lent: where it is made it is written to the stack.
+// The register behind the bytes, by a lent table: where a table is made it is written to the stack.
 fn bytes_by(t: &[u32; 16], from: u32, bytes: &[u8]) -> u32
     requires { ⌜ now t ≡ halfBytes feedback802 ⌝ }
     ensures { λ x. ⌜ x ≡ bytesIn feedback802 from (now (bytes .entry)) ⌝ }
