@@ -1,0 +1,5 @@
+pub mod Blocks
+pub mod Parts
+pub mod Stores
+pub mod Ways
+pub mod Weights

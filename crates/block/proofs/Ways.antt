@@ -1,0 +1,83 @@
+-- One law for each way out of `fault`: the tests that led to it, as the code has them in hand. Assumes nothing.
+use Prim.Native.Nat.{ℕ, _+_, _-_, _≤_}
+use mathlib.Core.Bool.{Bool, true, false, not, _&&_, _||_}
+use mathlib.Core.Path.{_≡_, sym, ap, _∙_}
+use mathlib.Core.List.{List}
+use native.Mathlib.Omega.{arith}
+use borrow.Author.Tests.{eq-eqb, ne-eqb, ltb-false, eqb-false}
+use lib.Dec.{eqb, ltb}
+use lib.ListN.{length, take, drop}
+use Rattle.rules.proofs.Choices.{said-yes, said-no, or-parts}
+use Rattle.memory.specs.Memory.{word}
+use Rattle.block.specs.Fields.{blockNumber, usedLength, unusedData, storedCheck, checkOf}
+use Rattle.block.specs.Faults.{usedFault, allZero, blockFault}
+use Rattle.block.proofs.Parts.{unused-part}
+
+-- a used length that is no fault
+pub used-in : (last : Bool) (u : ℕ) (r : Bool) → r ≡ usedFault last u → r ≡ false → (1 ≤ u) × (u ≤ 504)
+unfolding usedFault
+used-in last u r e h =
+    let p = or-parts (eqb u 0 || ltb 504 u) (not last && ltb u 504) (sym e ∙ h) in
+    let q = or-parts (eqb u 0) (ltb 504 u) (p .0) in
+    let some = eqb-false u 0 (q .0) in
+    let room = ltb-false 504 u (q .1) in
+    (omega arith, omega arith)
+
+module _ (last : Bool) (k : ℕ) (b : List ℕ) where
+  pub bad-length : (length b ≡ 512 → ⊥) → 17 ≡ blockFault last k b
+  unfolding blockFault
+  bad-length l = rw (ne-eqb (length b) 512 l)
+
+  pub bad-number : (n : ℕ) → length b ≡ 512 → n ≡ blockNumber b → (n ≡ k → ⊥) → 18 ≡ blockFault last k b
+  unfolding blockFault
+  bad-number n l en n≢k = rw (eq-eqb (length b) 512 l, ne-eqb (blockNumber b) k (λ q. n≢k (en ∙ q)))
+
+  module _ (n s c : ℕ) (l : length b ≡ 512) (en : n ≡ blockNumber b) (hn : n ≡ k) (es : s ≡ word b 508) (ec : c ≡ checkOf b) where
+    pub bad-check : (s ≡ c → ⊥) → 19 ≡ blockFault last k b
+    unfolding blockFault storedCheck
+    bad-check h = rw (eq-eqb (length b) 512 l, eq-eqb (blockNumber b) k (sym en ∙ hn), ne-eqb (word b 508) (checkOf b) (λ q. h (es ∙ q ∙ sym ec)))
+
+    module _ (u : ℕ) (r : Bool) (hc : s ≡ c) (eu : u ≡ usedLength b) (er : r ≡ usedFault last u) where
+      pub bad-used : r ≡ true → 20 ≡ blockFault last k b
+      unfolding blockFault storedCheck
+      bad-used h =
+          rw (
+            eq-eqb (length b) 512 l,
+            eq-eqb (blockNumber b) k (sym en ∙ hn),
+            eq-eqb (word b 508) (checkOf b) (sym es ∙ hc ∙ ec),
+            ← eu,
+            ← er,
+            h,
+          )
+
+      module _ (z : Bool) (p : List ℕ) (hr : r ≡ false) (ep : p ≡ take (504 - u) (drop (4 + u) b)) (ez : z ≡ allZero p) where
+        fill-is : z ≡ allZero (unusedData b)
+        fill-is = ez ∙ ap allZero (ep ∙ unused-part b u eu)
+
+        pub bad-fill : not z ≡ true → 21 ≡ blockFault last k b
+        unfolding blockFault storedCheck
+        bad-fill h =
+            rw (
+              eq-eqb (length b) 512 l,
+              eq-eqb (blockNumber b) k (sym en ∙ hn),
+              eq-eqb (word b 508) (checkOf b) (sym es ∙ hc ∙ ec),
+              ← eu,
+              ← er,
+              hr,
+              said-no _ z fill-is h,
+            )
+
+        pub no-fault : not z ≡ false → 0 ≡ blockFault last k b
+        unfolding blockFault storedCheck
+        no-fault h =
+            rw (
+              eq-eqb (length b) 512 l,
+              eq-eqb (blockNumber b) k (sym en ∙ hn),
+              eq-eqb (word b 508) (checkOf b) (sym es ∙ hc ∙ ec),
+              ← eu,
+              ← er,
+              hr,
+              said-yes _ z fill-is h,
+            )
+
+pub ruleset ways = (bad-length, bad-number, bad-check, bad-used, bad-fill, no-fault)
