@@ -1,0 +1,4 @@
+pub mod Lists
+pub mod Good
+pub mod Back
+pub mod One
