@@ -1,15 +1,13 @@
 -- Laws of a block's parts: its zero fill, read in a loop and lent as a part. Assumes nothing.
 use Prim.Native.Nat.{ℕ, zero, suc, _+_, _-_, _≤_, _<_}
 use mathlib.Core.Bool.{Bool, true, false}
-use mathlib.Core.Path.{_≡_, refl, sym, ap, _∙_}
+use mathlib.Core.Path.{_≡_, sym, ap, _∙_}
 use mathlib.Core.List.{List, [], _∷_}
 use native.Mathlib.Nat.{zero-sub, suc-sub-suc, sub-zero}
 use native.Mathlib.Numerals.{add-one}
-use native.Mathlib.Omega.{arith}
 use borrow.Author.Tests.{eq-eqb, ne-eqb}
-use lib.Dec.{eqb}
 use lib.ListN.{length, getD, take, drop, drop-of-length-le}
-use lib.Seq.{drop-cons, drop-drop, drop-nil, take-nil}
+use lib.Seq.{drop-cons, drop-drop, take-nil}
 use Rattle.block.specs.Fields.{dataOf, usedLength, unusedData}
 use Rattle.block.specs.Faults.{allZero}
 

@@ -1,16 +1,16 @@
 -- What is read of a block that is made: its number, its used data, its zero fill, its check. Assumes nothing.
-use Prim.Native.Nat.{ℕ, _+_, _*_, _-_, _/_, _%_, _^_, _≤_, _<_}
-use mathlib.Core.Path.{_≡_, refl, sym, ap, ap₂, _∙_}
+use Prim.Native.Nat.{ℕ, _+_, _-_, _/_, _%_, _^_, _≤_, _<_}
+use mathlib.Core.Path.{_≡_, refl, sym, ap, _∙_}
 use mathlib.Core.List.{List, [], _∷_, _++_}
 use native.Mathlib.Omega.{arith}
-use lib.ListN.{length, getD, take, drop, replicate, length-append}
+use lib.ListN.{length, take, replicate, length-append}
 use lib.Seq.{take-at, drop-at, take-all, getD-append-add, getD-append-seam}
-use Rattle.memory.specs.Memory.{word, wordOf, wordBytes}
+use Rattle.memory.specs.Memory.{word, wordBytes}
 use Rattle.memory.proofs.Stores.{length-word-bytes}
 use Rattle.block.specs.Fields.{blockNumber, usedLength, dataOf, usedData, unusedData, storedCheck, weighted, checkOf}
 use Rattle.block.specs.Made.{halfBytes, filled, frontOf, blockOf}
 use Rattle.block.proofs.Blocks.{filled-is, length-filled, length-front}
-use Rattle.block_forms.specs.Forms.{Back, MadeBack}
+use Rattle.block_forms.specs.Forms.{MadeBack}
 
 -- a word that stands behind other bytes
 word-behind : (s : List ℕ) (v : ℕ) → v < 2 ^ 32 → word (s ++ wordBytes v) (length s) ≡ v

@@ -1,15 +1,13 @@
 -- A block that is made has no fault. Assumes nothing.
 use Prim.Native.Nat.{ℕ, _-_, _≤_}
-use mathlib.Core.Path.{_≡_, refl, ap, _∙_}
-use mathlib.Core.Bool.{Bool, true, false, not, _&&_, _||_}
+use mathlib.Core.Path.{_≡_}
+use mathlib.Core.Bool.{Bool, true, false}
 use mathlib.Core.Logic.{_⊎_, inl, inr}
-use mathlib.Core.List.{List}
 use native.Mathlib.Omega.{arith}
 use borrow.Author.Tests.{eq-eqb, ne-eqb, le-ltb}
-use lib.Dec.{eqb, ltb}
 use lib.ListN.{length}
-use Rattle.block.specs.Fields.{blockNumber, usedLength, unusedData, storedCheck, checkOf}
-use Rattle.block.specs.Faults.{usedFault, allZero, blockFault}
+use Rattle.block.specs.Fields.{blockNumber, storedCheck, checkOf}
+use Rattle.block.specs.Faults.{usedFault, blockFault}
 use Rattle.block.specs.Made.{blockOf}
 use Rattle.block_forms.specs.Forms.{MadeGood}
 use Rattle.block_forms.proofs.Lists.{zeros-zero}

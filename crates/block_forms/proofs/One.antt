@@ -1,22 +1,22 @@
 -- A block with no fault is the block that is made of its number and its used data. Assumes nothing.
-use Prim.Native.Nat.{ℕ, _+_, _*_, _-_, _≤_, _<_}
+use Prim.Native.Nat.{ℕ, _+_, _-_, _≤_, _<_}
 use mathlib.Core.Path.{_≡_, refl, sym, ap, ap₂, _∙_}
-use mathlib.Core.Bool.{Bool, true, false, not, _&&_, _||_, true≢false}
-use mathlib.Core.List.{List, [], _∷_, _++_}
+use mathlib.Core.Bool.{Bool, true, false, not, _&&_, _||_}
+use mathlib.Core.List.{List, _++_}
 use native.Mathlib.Omega.{arith}
-use borrow.Author.Tests.{eqb-true, eqb-false, ltb-false, not-false}
+use borrow.Author.Tests.{eqb-true, ltb-false, not-false}
 use lib.Dec.{eqb, ltb}
-use lib.ListN.{length, getD, take, drop, replicate, length-take, length-drop, take-append-drop}
+use lib.ListN.{length, getD, take, drop, replicate, length-drop, take-append-drop}
 use lib.Seq.{length-take-le, take-all, take-add, getD-drop}
 use Rattle.rules.specs.Choice.{if_then_else_}
 use Rattle.rules.proofs.Choices.{or-parts}
-use Rattle.memory.specs.Memory.{word, wordOf, wordBytes}
+use Rattle.memory.specs.Memory.{word, wordBytes}
 use Rattle.block.specs.Fields.{blockNumber, usedLength, dataOf, usedData, unusedData, storedCheck, checkOf}
 use Rattle.block.specs.Faults.{usedFault, allZero, blockFault}
 use Rattle.block.specs.Made.{halfBytes, filled, frontOf, blockOf}
 use Rattle.block.proofs.Blocks.{front-is, length-front}
 use Rattle.block.proofs.Ways.{used-in}
-use Rattle.block_forms.specs.Forms.{Bytes, Form, OneForm}
+use Rattle.block_forms.specs.Forms.{Bytes, OneForm}
 use Rattle.block_forms.proofs.Lists.{zero-zeros, four-first, half-bytes, word-bytes}
 use Rattle.block_forms.proofs.Back.{filled-parts, check-front}
 

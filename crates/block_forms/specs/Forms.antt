@@ -1,5 +1,5 @@
--- 02, Wish 4, of one block: "what writing accepts, reading gives back" and "a trace that reading accepts is, byte for byte, what
--- writing makes". Assumes nothing.
+-- 02, Wish 4, of one block: what is written, "reading returns the same"; and what is read with no fault is, byte for byte, what is
+-- written. Assumes nothing.
 use Prim.Native.Nat.{ℕ, _≤_, _<_}
 use mathlib.Core.Path.{_≡_}
 use mathlib.Core.Bool.{Bool, true, false}

@@ -8,20 +8,15 @@ use Rattle.block.proofs.made.put.Tie as tie
 
 weigh-requires-2 : tie.Need-weigh-requires-2
 weigh-requires-2 c κs =
-    let part = c .before .before in
-    (omega arith, omega (arith, part-small (part .part .result .now) (part .before .before .before .before .before .args .used .now) 504 (part .part .ensures)))
-
-add-clear-2 : tie.Need-add-clear-2
-add-clear-2 c =
-    let store₁ = c .before .before .before .before .before .before .before in
-    let part = store₁ .before .before .before .before .before .before in
-    omega (arith, part-small (part .part .result .now) (part .before .before .before .before .before .args .used .now) 504 (part .part .ensures))
+    let p = c .before .before in
+    let small = part-small (p .part .result .now) (p .before .before .before .before .before .args .used .now) 504 (p .part .ensures) in
+    (omega arith, omega arith)
 
 sub-clear : tie.Need-sub-clear
 sub-clear c =
-    let store₁ = c .before .before .before .before .before .before .before in
-    let part = store₁ .before .before .before .before .before .before in
-    part-small (part .part .result .now) (part .before .before .before .before .before .args .used .now) 504 (part .part .ensures)
+    let store = c .before .before .before .before .before .before .before in
+    let p = store .before .before .before .before .before .before in
+    part-small (p .part .result .now) (p .before .before .before .before .before .args .used .now) 504 (p .part .ensures)
 
 returns-2 : tie.Need-returns-2
 returns-2 c =
@@ -32,8 +27,7 @@ returns-2 c =
     let weigh₂ = store₁ .before .before .before in
     let weigh₁ = weigh₂ .before in
     let part = weigh₁ .before .before in
-    let head = part .before in
-    all-put _ _ _ _ (head .head .ensures) (part .part .ensures) _ _ _ _ _ _ _ _ (weigh₁ .weigh .ensures .0) (weigh₂ .weigh2 .ensures .0)
+    all-put _ _ _ _ (part .before .head .ensures) (part .part .ensures) _ _ _ _ _ _ _ _ (weigh₁ .weigh .ensures .0) (weigh₂ .weigh2 .ensures .0)
     (store₁ .store .ensures)
     (store₂ .store2 .ensures)
     (clear .clear .ensures)
@@ -55,7 +49,7 @@ put-spec =
     (λ c. search needs)
     (λ c κs. search needs)
     (λ c. search needs)
-    add-clear-2
+    (λ c. omega (arith, sub-clear c))
     sub-clear
     (λ c κs. search needs)
     (λ c. search needs)

@@ -1,8 +1,8 @@
 -- `block::sums::weigh` meets its contract. The loop's invariant: the sum of the bytes passed and that of the bytes left are the whole sum, and each
 -- byte passed added at most 130,560, 255 times 512. Assumes nothing.
 use Prim.Native.Nat.{_+_, _*_, _≤_, _-_}
-use mathlib.Core.Path.{_≡_, refl}
-use native.Mathlib.Nat.{add-zero, zero-add}
+use mathlib.Core.Path.{_≡_}
+use native.Mathlib.Nat.{zero-add}
 use native.Mathlib.Omega.{arith}
 use lib.ListN.{length, drop, getD}
 use Rattle.block.specs.Fields.{weighted}
