@@ -7,10 +7,10 @@ use native.Mathlib.Omega.{arith}
 use lib.ListN.{length, take, replicate, length-take, length-append, length-replicate}
 use lib.Seq.{take-all}
 use Rattle.memory.specs.Memory.{store, storeWord, wordBytes}
+use Rattle.memory.proofs.Stores.{store-append}
 use Rattle.block.specs.Fields.{weighted, checkOf}
 use Rattle.block.specs.Made.{halfBytes, filled, frontOf, blockOf}
 use Rattle.block.proofs.Weights.{weighted-append, weighted-zeros}
-use Rattle.block.proofs.Stores.{store-append}
 
 -- a part of at most n bytes
 pub part-small : (p s : List ℕ) (n : ℕ) → p ≡ take n s → length p ≤ n

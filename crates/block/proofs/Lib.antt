@@ -1,5 +1,5 @@
 pub mod Blocks
+pub mod Clearing
 pub mod Parts
-pub mod Stores
 pub mod Ways
 pub mod Weights

@@ -11,18 +11,18 @@ use lib.Seq.{drop-cons, drop-drop, take-nil}
 use Rattle.block.specs.Fields.{dataOf, usedLength, unusedData}
 use Rattle.block.specs.Faults.{allZero}
 
--- ---- The loop over bytes that should be zero
+-- ---- A loop over bytes, and that over bytes that should be zero
 
-zero-first : (s : List ℕ) (i : ℕ) → i < length s → drop i s ≡ getD s i 0 ∷ drop (i + 1) s
-zero-first s i h = rw add-one (drop-cons s i 0 h)
+pub next-byte : (s : List ℕ) (i : ℕ) → i < length s → drop i s ≡ getD s i 0 ∷ drop (i + 1) s
+next-byte s i h = rw add-one (drop-cons s i 0 h)
 
 pub zero-turn : (s : List ℕ) (i : ℕ) (all : Bool) → i < length s → getD s i 0 ≡ 0 → allZero (drop i s) ≡ all → allZero (drop (i + 1) s) ≡ all
 unfolding allZero
-zero-turn s i all h z e = rw (zero-first s i h, eq-eqb (getD s i 0) 0 z) at e
+zero-turn s i all h z e = rw (next-byte s i h, eq-eqb (getD s i 0) 0 z) at e
 
 pub zero-fails : (s : List ℕ) (i : ℕ) (all : Bool) → i < length s → (getD s i 0 ≡ 0 → ⊥) → allZero (drop i s) ≡ all → false ≡ all
 unfolding allZero
-zero-fails s i all h z e = rw (zero-first s i h, ne-eqb (getD s i 0) 0 z) at e
+zero-fails s i all h z e = rw (next-byte s i h, ne-eqb (getD s i 0) 0 z) at e
 
 pub zero-end : (s : List ℕ) (i : ℕ) (all : Bool) → length s ≤ i → allZero (drop i s) ≡ all → true ≡ all
 unfolding allZero

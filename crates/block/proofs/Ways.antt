@@ -7,6 +7,7 @@ use native.Mathlib.Omega.{arith}
 use borrow.Author.Tests.{eq-eqb, ne-eqb, ltb-false, eqb-false}
 use lib.Dec.{eqb, ltb}
 use lib.ListN.{length, take, drop}
+use Rattle.rules.specs.Choice.{if_then_else_}
 use Rattle.rules.proofs.Choices.{said-yes, said-no, or-parts}
 use Rattle.memory.specs.Memory.{word}
 use Rattle.block.specs.Fields.{blockNumber, usedLength, unusedData, storedCheck, checkOf}
@@ -38,46 +39,28 @@ module _ (last : Bool) (k : ℕ) (b : List ℕ) where
     bad-check h = rw (eq-eqb (length b) 512 l, eq-eqb (blockNumber b) k (sym en ∙ hn), ne-eqb (word b 508) (checkOf b) (λ q. h (es ∙ q ∙ sym ec)))
 
     module _ (u : ℕ) (r : Bool) (hc : s ≡ c) (eu : u ≡ usedLength b) (er : r ≡ usedFault last u) where
-      pub bad-used : r ≡ true → 20 ≡ blockFault last k b
+      check-passed : blockFault last k b ≡ (if r then 20 else if not (allZero (unusedData b)) then 21 else 0)
       unfolding blockFault storedCheck
-      bad-used h =
+      check-passed =
           rw (
             eq-eqb (length b) 512 l,
             eq-eqb (blockNumber b) k (sym en ∙ hn),
             eq-eqb (word b 508) (checkOf b) (sym es ∙ hc ∙ ec),
             ← eu,
             ← er,
-            h,
           )
+
+      pub bad-used : r ≡ true → 20 ≡ blockFault last k b
+      bad-used h = rw (check-passed, h)
 
       module _ (z : Bool) (p : List ℕ) (hr : r ≡ false) (ep : p ≡ take (504 - u) (drop (4 + u) b)) (ez : z ≡ allZero p) where
         fill-is : z ≡ allZero (unusedData b)
         fill-is = ez ∙ ap allZero (ep ∙ unused-part b u eu)
 
         pub bad-fill : not z ≡ true → 21 ≡ blockFault last k b
-        unfolding blockFault storedCheck
-        bad-fill h =
-            rw (
-              eq-eqb (length b) 512 l,
-              eq-eqb (blockNumber b) k (sym en ∙ hn),
-              eq-eqb (word b 508) (checkOf b) (sym es ∙ hc ∙ ec),
-              ← eu,
-              ← er,
-              hr,
-              said-no _ z fill-is h,
-            )
+        bad-fill h = rw (check-passed, hr, said-no (allZero (unusedData b)) z fill-is h)
 
         pub no-fault : not z ≡ false → 0 ≡ blockFault last k b
-        unfolding blockFault storedCheck
-        no-fault h =
-            rw (
-              eq-eqb (length b) 512 l,
-              eq-eqb (blockNumber b) k (sym en ∙ hn),
-              eq-eqb (word b 508) (checkOf b) (sym es ∙ hc ∙ ec),
-              ← eu,
-              ← er,
-              hr,
-              said-yes _ z fill-is h,
-            )
+        no-fault h = rw (check-passed, hr, said-yes (allZero (unusedData b)) z fill-is h)
 
 pub ruleset ways = (bad-length, bad-number, bad-check, bad-used, bad-fill, no-fault)

@@ -3,11 +3,10 @@ use Prim.Native.Nat.{ℕ, zero, suc, _+_, _*_, _≤_, _<_}
 use mathlib.Core.Path.{_≡_, refl}
 use mathlib.Core.List.{List, [], _∷_, _++_}
 use native.Mathlib.Nat.{mul-le-mul}
-use native.Mathlib.Numerals.{add-one}
 use native.Mathlib.Omega.{arith}
 use lib.ListN.{length, getD, drop, replicate, drop-of-length-le}
-use lib.Seq.{drop-cons}
 use Rattle.block.specs.Fields.{weighted}
+use Rattle.block.proofs.Parts.{next-byte}
 
 -- ---- The loop over the bytes
 
@@ -16,8 +15,7 @@ pub weigh-turn : (s : List ℕ) (w i sum all : ℕ) → i < length s → sum + w
     → sum + getD s i 0 * (w + 1) + weighted (w + 1) (drop (i + 1) s) ≡ all
 unfolding weighted
 weigh-turn s w i sum all h e =
-    let f : drop i s ≡ getD s i 0 ∷ drop (i + 1) s = rw add-one (drop-cons s i 0 h) in
-    let g = rw f at e in
+    let g = rw (next-byte s i h) at e in
     omega arith
 
 pub weigh-end : (s : List ℕ) (w i sum all : ℕ) → length s ≤ i → sum + weighted w (drop i s) ≡ all → sum ≡ all

@@ -1,4 +1,4 @@
-pub mod Lists
-pub mod Good
 pub mod Back
+pub mod Good
+pub mod Lists
 pub mod One

@@ -7,7 +7,7 @@ use native.Mathlib.Omega.{arith}
 use lib.ListN.{length, replicate, length-set}
 use Rattle.memory.specs.Memory.{store}
 use Rattle.memory.proofs.Laws.{store-out}
-use Rattle.block.proofs.Stores.{Least, clear-turn, clear-end}
+use Rattle.block.proofs.Clearing.{Least, clear-turn, clear-end}
 use Rattle.block.proofs.made.clear.Statement.{statement}
 use Rattle.block.proofs.made.clear.Tie as tie
 

@@ -1,26 +1,12 @@
--- Laws of stores behind one another, and of a run of zeros. Assumes nothing.
+-- Laws of the loop that puts zeros. Assumes nothing.
 use Prim.Native.Nat.{ℕ, suc, _+_, _-_, _≤_, _<_}
 use mathlib.Core.Path.{_≡_, _∙_}
 use mathlib.Core.Logic.{_⊎_, inl, inr}
-use mathlib.Core.List.{List, [], _∷_, _++_}
-use native.Mathlib.Nat.{add-zero, add-suc, suc-add}
+use mathlib.Core.List.{List}
 use native.Mathlib.Omega.{arith}
 use lib.ListN.{length, set, replicate}
-use lib.Seq.{sets}
 use Rattle.memory.specs.Memory.{store}
 use Rattle.memory.proofs.Laws.{store-out}
-
--- ---- One store behind another
-
-sets-append : (a b m : List ℕ) (i : ℕ) → sets (sets m i a) (i + length a) b ≡ sets m i (a ++ b)
-sets-append [] b m i = rw (add-zero i)
-sets-append (x ∷ a) b m i = rw (add-suc i (length a), ← suc-add i (length a)) (sets-append a b (set m i x) (suc i))
-
-pub store-append : (m : List ℕ) (i j : ℕ) (a b : List ℕ) → j ≡ i + length a → store (store m i a) j b ≡ store m i (a ++ b)
-unfolding store
-store-append m i j a b e = rw e (sets-append a b m i)
-
--- ---- The loop that puts zeros
 
 -- r is the lesser of two numbers
 pub record Least (r a b : ℕ) : Type 0 where
