@@ -1,10 +1,10 @@
--- One law for each way out of `fault`: the tests that led to it, as the code has them in hand. Assumes nothing.
-use Prim.Native.Nat.{ℕ, _+_, _-_, _≤_}
+-- One law for each way out of `used_fault` and of `fault`: the tests that led to it, as the code has them in hand. Assumes nothing.
+use Prim.Native.Nat.{ℕ, _+_, _-_, _≤_, _<_}
 use mathlib.Core.Bool.{Bool, true, false, not, _&&_, _||_}
 use mathlib.Core.Path.{_≡_, sym, ap, _∙_}
 use mathlib.Core.List.{List}
 use native.Mathlib.Omega.{arith}
-use borrow.Author.Tests.{eq-eqb, ne-eqb, ltb-false, eqb-false}
+use borrow.Author.Tests.{eq-eqb, ne-eqb, lt-ltb, le-ltb, ltb-false, eqb-false}
 use lib.Dec.{eqb, ltb}
 use lib.ListN.{length, take, drop}
 use Rattle.rules.specs.Choice.{if_then_else_}
@@ -13,6 +13,27 @@ use Rattle.memory.specs.Memory.{word}
 use Rattle.block.specs.Fields.{blockNumber, usedLength, unusedData, storedCheck, checkOf}
 use Rattle.block.specs.Faults.{usedFault, allZero, blockFault}
 use Rattle.block.proofs.Parts.{unused-part}
+
+module _ (last : Bool) (u : ℕ) where
+  pub used-none : u ≡ 0 → true ≡ usedFault last u
+  unfolding usedFault
+  used-none e = rw (eq-eqb u 0 e)
+
+  module _ (some : u ≡ 0 → ⊥) where
+    pub used-over : 504 < u → true ≡ usedFault last u
+    unfolding usedFault
+    used-over h = rw (ne-eqb u 0 some, lt-ltb 504 u h)
+
+    module _ (room : u ≤ 504) where
+      pub used-last : last ≡ true → false ≡ usedFault last u
+      unfolding usedFault
+      used-last e = rw (ne-eqb u 0 some, le-ltb 504 u room, e)
+
+      pub used-other : last ≡ false → ltb u 504 ≡ usedFault last u
+      unfolding usedFault
+      used-other e = rw (ne-eqb u 0 some, le-ltb 504 u room, e)
+
+pub ruleset used-ways = (used-none, used-over, used-last, used-other)
 
 -- a used length that is no fault
 pub used-in : (last : Bool) (u : ℕ) (r : Bool) → r ≡ usedFault last u → r ≡ false → (1 ≤ u) × (u ≤ 504)

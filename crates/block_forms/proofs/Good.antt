@@ -1,23 +1,23 @@
 -- A block that is made has no fault. Assumes nothing.
 use Prim.Native.Nat.{ℕ, _-_, _≤_}
-use mathlib.Core.Path.{_≡_}
+use mathlib.Core.Path.{_≡_, refl, sym, _∙_}
 use mathlib.Core.Bool.{Bool, true, false}
 use mathlib.Core.Logic.{_⊎_, inl, inr}
 use native.Mathlib.Omega.{arith}
-use borrow.Author.Tests.{eq-eqb, ne-eqb, le-ltb}
+use borrow.Author.Tests.{eq-eqb, le-ltb}
 use lib.ListN.{length}
 use Rattle.block.specs.Fields.{blockNumber, storedCheck, checkOf}
 use Rattle.block.specs.Faults.{usedFault, blockFault}
 use Rattle.block.specs.Made.{blockOf}
+use Rattle.block.proofs.Ways.{used-last, used-other}
 use Rattle.block_forms.specs.Forms.{MadeGood}
 use Rattle.block_forms.proofs.Lists.{zeros-zero}
 use Rattle.block_forms.proofs.Back.{length-block, number-back, used-back, check-back, unused-back}
 
 used-good : (last : Bool) (u : ℕ) → 1 ≤ u → u ≤ 504 → (last ≡ true) ⊎ (u ≡ 504) → usedFault last u ≡ false
-unfolding usedFault
-used-good last u some room (inl e) = rw (ne-eqb u 0 (λ q. omega arith), le-ltb 504 u room, e)
-used-good true u some room (inr e) = rw (ne-eqb u 0 (λ q. omega arith), le-ltb 504 u room)
-used-good false u some room (inr e) = rw (ne-eqb u 0 (λ q. omega arith), le-ltb 504 u room, le-ltb u 504 (omega arith))
+used-good last u some room (inl e) = sym (used-last last u (λ q. omega arith) room e)
+used-good true u some room (inr e) = sym (used-last true u (λ q. omega arith) room refl)
+used-good false u some room (inr e) = sym (used-other false u (λ q. omega arith) room refl) ∙ le-ltb u 504 (omega arith)
 
 pub made-good : MadeGood
 unfolding blockFault
