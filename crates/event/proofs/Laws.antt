@@ -136,3 +136,19 @@ walking-ends s place events n first left ending i z a b c =
     rw (byte-from s place, l, ← a, ← b, c) in
     let q = stop (length s - events) (drop place s) (omega arith) (sym (i .0) ∙ z) ∙ e in
     same _ _ _ _ ending (sym (add-zero place)) (sym (add-zero events)) ∙ ap (λ (w : Walked). ahead place events w) (sym q) ∙ i .1 .1 .1
+
+-- ---- the whole events lie in the list
+
+pub place-fits : (f : ℕ) (s : List ℕ) → counted (walks f s) .place ≤ length s
+unfolding walks
+place-fits zero s = omega arith
+place-fits (suc f) s =
+    by-bool (eqb (length s) 0) (λ t. rw t (omega arith)) (λ t. rw t (by-front (place-fits f) (front s) (size-fits s)))
+  where
+    by-front : ((s : List ℕ) → counted (walks f s) .place ≤ length s) → (x : Front) → sizeOf x ≤ length s → counted (before x (walks f (behind x s))) .place ≤ length s
+    by-front rest (whole e) h =
+        let i = rest (drop (size e) s) in
+        let l = length-drop (size e) s in
+        omega arith
+    by-front rest cut h = omega arith
+    by-front rest noEvent h = omega arith

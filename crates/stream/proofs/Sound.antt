@@ -12,7 +12,7 @@ use Rattle.rules.specs.Choice.{if_then_else_}
 use Rattle.rules.proofs.Choices.{or-parts}
 use Rattle.block.specs.Fields.{blockNumber, usedLength, dataOf, usedData, storedCheck, checkOf}
 use Rattle.block.specs.Faults.{usedFault, blockFault}
-use Rattle.stream.specs.Blocks.{blockAt, blockCount, isLast, faultAt}
+use Rattle.stream.specs.Blocks.{blockAt, blockCount, isLast, faultAt, Sound}
 use Rattle.stream.specs.Stream.{stream}
 
 pub by-bool : {C : Type 0} (t : Bool) → (t ≡ true → C) → (t ≡ false → C) → C
@@ -61,10 +61,6 @@ unfolding usedData dataOf
 used-long b l h = simp (length-take, length-drop) (omega arith)
 
 -- ---- blocks one behind the other
-
--- the first n have no fault of their own
-abbrev pub Sound : List ℕ → ℕ → Type 0
-Sound t n = (k : ℕ) → k < n → faultAt t k ≡ 0
 
 module _ (t : List ℕ) where
   abbrev pub count : ℕ

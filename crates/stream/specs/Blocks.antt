@@ -1,5 +1,6 @@
 -- 02, Wish 4: "A trace is blocks of 512 bytes". Assumes nothing.
-use Prim.Native.Nat.{ℕ, zero, suc, _+_, _*_, _/_}
+use Prim.Native.Nat.{ℕ, zero, suc, _+_, _*_, _/_, _<_}
+use mathlib.Core.Path.{_≡_}
 use mathlib.Core.Bool.{Bool}
 use mathlib.Core.List.{List}
 use lib.Dec.{eqb}
@@ -29,3 +30,7 @@ unfoldable pub firstFault : List ℕ → ℕ → ℕ → Fault
 firstFault t k zero = record { number = 0; block = k }
 firstFault t k (suc n) =
     if eqb (faultAt t k) 0 then firstFault t (k + 1) n else record { number = faultAt t k; block = k }
+
+-- the first n blocks have no fault of their own
+abbrev pub Sound : List ℕ → ℕ → Type 0
+Sound t n = (k : ℕ) → k < n → faultAt t k ≡ 0
