@@ -19,4 +19,5 @@ pub mod random;
 pub mod scripts;
 pub mod tables;
 pub mod tally;
+pub mod trace;
 pub mod verdict;
