@@ -5,6 +5,7 @@ mod bursts;
 mod calls;
 mod chaos;
 mod damage;
+pub mod days;
 mod filters;
 pub mod hand_made;
 mod layout;
