@@ -110,7 +110,7 @@ fn begun(tape: &mut Tape, place: usize, random: &mut Random) -> Option<&'static 
 /// A header whose window is not allowed.
 fn window(tape: &mut Tape, random: &mut Random) -> &'static str {
     let header = &mut tape.block(0)[block::DATA][..6];
-    let name = match random.below(5) {
+    match random.below(5) {
         0 => {
             header[0] |= random.pick(&[1, 2, 3]);
             "base no multiple of 4"
@@ -137,8 +137,7 @@ fn window(tape: &mut Tape, random: &mut Random) -> &'static str {
             header.copy_from_slice(&[0x04, 0x00, 0xFF, 0xFF, 0xFF, 0xFF]);
             "window past the last address"
         }
-    };
-    name
+    }
 }
 
 /// A byte of the zero fill; only a part-filled last block has one.

@@ -9,7 +9,7 @@ pub const KINDS: u64 = 16;
 /// The random trace of a seed; which kind it is goes by the seed too, so that all kinds come round.
 /// A few seeds in a row have one day.
 pub fn random(seed: u64) -> Tape {
-    let mut day = Random::new(seed / 4 ^ 0xDA11);
+    let mut day = Random::new((seed / 4) ^ 0xDA11);
     let mut tape = good(&mut day);
     let random = &mut Random::new(seed);
     match seed % KINDS {

@@ -29,7 +29,7 @@ pub struct List {
 impl List {
     /// The random list of a seed.
     pub fn random(seed: u64) -> List {
-        let mut day = Random::new(seed / 4 ^ 0x115F);
+        let mut day = Random::new((seed / 4) ^ 0x115F);
         let random = &mut Random::new(seed);
         let content = crate::trace::content(&good(&mut day).bytes);
         let content = content.expect("a good trace has no bad block");

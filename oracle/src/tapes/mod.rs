@@ -19,6 +19,7 @@ pub use good::{good, Shape, SHAPES};
 pub use kinds::{random, KINDS};
 pub use lending::Lent;
 pub use lists::{List, DAMAGES};
+pub use pairs::all as pairs_of_faults;
 
 use crate::trace::{block, starts, Event, Header};
 

@@ -66,3 +66,36 @@ fn cut_events_are_cut() {
         assert_eq!(found, (place < 5).then_some(22));
     }
 }
+
+#[test]
+fn of_two_faults_the_first_is_told() {
+    let mut random = Random::new(14);
+    let number = |name: &str| match name {
+        "Event" => 22,
+        "Fill" => 21,
+        "Used" => 20,
+        "Number" => 18,
+        "Check" => 19,
+        _ => 17,
+    };
+    let tapes = pairs_of_faults(&mut random);
+    assert!(tapes.len() > 150);
+    for tape in tapes {
+        let words: Vec<&str> = tape.kind.split(' ').collect();
+        let found = trace::content(&tape.bytes).err().expect("a bad block");
+        let told = found.reason;
+        let (first, last) = (number(words[0]), number(words[words.len() - 1]));
+        match words[..] {
+            // Bytes behind a part-filled last block make it a middle one.
+            _ if told == 20 && (first == 17 || last == 17) => {}
+            [_, "in", "an", ..] => assert_eq!(told, first, "{}", tape.kind),
+            [_, "and", second, ..] => {
+                let both = [first, number(second)];
+                // A fault of the event may stand in data that another made unused.
+                let least = both[0].min(both[1]);
+                assert!(told == least || least == 17, "{} {told}", tape.kind);
+            }
+            _ => panic!("no pair: {}", tape.kind),
+        }
+    }
+}
