@@ -15,6 +15,7 @@ pub mod hash_vectors;
 pub mod hex;
 pub mod numbers;
 pub mod program;
+pub mod programs;
 pub mod random;
 pub mod recording;
 pub mod scripts;
