@@ -3,7 +3,7 @@
 
 use super::Tape;
 use crate::random::Random;
-use crate::trace::block;
+use crate::trace::{block, event};
 
 pub fn put(tape: &mut Tape, random: &mut Random) {
     for _ in 0..random.between(1, 3) {
@@ -25,6 +25,33 @@ pub fn put(tape: &mut Tape, random: &mut Random) {
         (true, true) => "damage with right checks and numbers",
     }
     .to_string();
+}
+
+/// Flips one bit of a frame's length, checks made right: the events behind it are out of step, or
+/// it is longer than all that is there.
+pub fn frame_length(tape: &mut Tape, random: &mut Random) {
+    let starts = tape.starts.clone();
+    let frames: Vec<usize> = starts
+        .into_iter()
+        .filter(|start| *tape.data_byte(*start) == event::FRAME)
+        .collect();
+    if frames.is_empty() {
+        return put(tape, random);
+    }
+    let bit = length_bit(random);
+    let field = random.pick(&frames) + 1;
+    *tape.data_byte(field + bit / 8) ^= 1 << (bit % 8);
+    tape.recheck_all();
+    tape.kind = "frame length changed".to_string();
+}
+
+/// A bit of a frame's length, often one that a narrower number has not, or the uppermost.
+pub fn length_bit(random: &mut Random) -> usize {
+    match random.below(4) {
+        0 => 31,
+        1 => random.between(16, 31),
+        _ => random.below(32),
+    }
 }
 
 fn action(tape: &mut Tape, random: &mut Random) {

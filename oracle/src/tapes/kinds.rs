@@ -16,7 +16,8 @@ pub fn random(seed: u64) -> Tape {
         0..=5 => tape.kind = format!("good {}", tape.kind),
         6..=10 => one_fault(&mut tape, random),
         11 => pairs::put(&mut tape, false, random),
-        12 | 13 => pairs::put(&mut tape, true, random),
+        12 => pairs::put(&mut tape, true, random),
+        13 => damage::frame_length(&mut tape, random),
         _ => damage::put(&mut tape, random),
     }
     tape

@@ -74,7 +74,8 @@ fn output(random: &mut Random) -> Vec<u8> {
         0 => random.pick(&[0, 1, 64, 1_517]),
         1 => 1_517,
         2 => 1_519,
-        3 => random.between(1_518, 4_000),
+        // Longer than two frames: each send is lent the whole of it.
+        3..=5 => random.between(1_518, 4_000),
         _ => 1_518,
     };
     random.bytes(length)

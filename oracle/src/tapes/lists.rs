@@ -1,5 +1,6 @@
 //! Event lists to be written, with windows and rooms; good ones, and ones to be refused.
 
+use super::damage::length_bit;
 use super::{good, lending};
 use crate::random::Random;
 use crate::trace::{block, starts, Header};
@@ -113,8 +114,9 @@ fn damage(events: &mut Vec<u8>, random: &mut Random) -> &'static str {
         4 => {
             let frame: Vec<usize> = places.into_iter().filter(|p| events[*p] == 3).collect();
             if !frame.is_empty() {
-                let field = random.pick(&frame) + random.between(1, 4);
-                events[field] ^= 1 << random.below(8);
+                let bit = length_bit(random);
+                let field = random.pick(&frame) + 1;
+                events[field + bit / 8] ^= 1 << (bit % 8);
             }
             "frame length changed"
         }

@@ -87,6 +87,12 @@ impl Tape {
         self.data.saturating_sub(before).min(block::DATA_MOST)
     }
 
+    /// One byte of the event data.
+    fn data_byte(&mut self, place: usize) -> &mut u8 {
+        let data = place % block::DATA_MOST;
+        &mut self.block(place / block::DATA_MOST)[block::DATA][data]
+    }
+
     /// The events that start in a block, by their place in its data.
     fn starts_in(&self, place: usize) -> Vec<usize> {
         let first = block::DATA_MOST * place;

@@ -4,7 +4,7 @@
 //! the window, then the events.
 
 pub mod block;
-mod event;
+pub mod event;
 mod header;
 mod list;
 mod reading;

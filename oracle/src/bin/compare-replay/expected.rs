@@ -1,8 +1,8 @@
 //! What a whole comparison must have met, and how often.
 
-use crate::records::{Target, TARGETS};
 use crate::replays::MEMORIES;
 use crate::scripts::KINDS;
+use crate::targets::{Target, TARGETS};
 use oracle::tally::Tally;
 
 /// How often most kinds must be met in a whole comparison, and the few that cost more.

@@ -1,9 +1,9 @@
 //! The longest trace that each program must have room for, and ones far over it.
 
 use crate::compare::Comparison;
-use crate::records::{self, Target};
-use crate::replays;
 use crate::scripts::Made;
+use crate::targets::Target;
+use crate::{records, replays};
 use oracle::programs::{BLOCKS_LEAST, ROOM_MOST};
 use oracle::random::Random;
 use oracle::trace::{block, Event, Header};

@@ -8,11 +8,12 @@ mod large;
 mod records;
 mod replays;
 mod scripts;
+mod targets;
 
 use compare::Comparison;
 use folder::Folder;
 use oracle::tally::Tally;
-use std::path::{Path, PathBuf};
+use std::path::PathBuf;
 use std::process::ExitCode;
 use std::time::{Duration, Instant, SystemTime, UNIX_EPOCH};
 
@@ -66,7 +67,7 @@ fn arguments(words: &[String]) -> Option<(PathBuf, PathBuf, Run)> {
         return None;
     };
     // The programs run in a folder of their own, so their names must hold from there on.
-    let program = |path: &String| Path::new(path).canonicalize().ok();
+    let program = |path: &String| std::path::absolute(path).ok();
     let (record, replay) = (program(record)?, program(replay)?);
     let (mut cases, mut seed) = (CASES, 0);
     for option in options.chunks(2) {

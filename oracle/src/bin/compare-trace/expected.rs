@@ -74,6 +74,16 @@ const ORDERS: [&str; 8] = [
     "Used in an earlier block than Length",
 ];
 
+/// Other kinds of trace that are made by turns.
+const KINDS: [&str; 6] = [
+    "damage as it is",
+    "damage with right checks",
+    "damage with right checks and numbers",
+    "frame length changed",
+    "two faults in any blocks",
+    "two faults in one block",
+];
+
 pub fn expect(tally: &mut Tally) {
     for number in (17..=28).chain([0]) {
         tally.expect(number_name(number));
@@ -95,6 +105,9 @@ pub fn expect(tally: &mut Tally) {
         tally.expect(damage_name(damage));
     }
     for kind in ORDERS {
+        tally.expect(kind_name(kind));
+    }
+    for kind in KINDS {
         tally.expect(kind_name(kind));
     }
     for shape in SHAPES {
