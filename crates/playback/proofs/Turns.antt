@@ -1,7 +1,7 @@
 -- The turns of a list of events are its calls one behind the other, with their answers put into the lent list; and a turn's event is
 -- the next of the walk along the list. Assumes nothing.
 use Prim.Native.Nat.{ℕ, zero, suc, _+_, _-_, _≤_}
-use mathlib.Core.Path.{_≡_, refl, sym, _∙_}
+use mathlib.Core.Path.{_≡_, refl, sym, ap, _∙_}
 use mathlib.Core.List.{List, [], _∷_}
 use native.Mathlib.Numerals.{add-one}
 use native.Mathlib.Omega.{arith}
@@ -33,6 +33,12 @@ turns-are : (es : List Event) (b : Bench) (out a : List ℕ) (i : ℕ)
 unfolding turnsOf play
 turns-are [] b out a i = refl
 turns-are (e ∷ es) b out a i = let x = act b out e in turns-are es (x .bench) (x .output) (set a i (x .number)) (suc i)
+
+-- as many answers as events
+pub length-play : (es : List Event) (b : Bench) (out : List ℕ) → length (play b out es .answers) ≡ length es
+unfolding play
+length-play [] b out = refl
+length-play (e ∷ es) b out = let x = act b out e in ap suc (length-play es (x .bench) (x .output))
 
 -- all of them, from the front of the lent list
 pub turns-play : (b : Bench) (out a list : List ℕ)

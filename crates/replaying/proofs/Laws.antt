@@ -1,6 +1,6 @@
--- The ways out of a replay, and that a trace that is read has room for its events. Assumes nothing.
+-- The ways out of a replay, and that the events of a trace that is read have room. Assumes nothing.
 use Prim.Native.Nat.{ℕ, _≤_, _<_}
-use mathlib.Core.Path.{_≡_, refl, _∙_}
+use mathlib.Core.Path.{_≡_, refl, ap, _∙_}
 use mathlib.Core.List.{List}
 use native.Mathlib.Omega.{arith}
 use borrow.Author.Tests.{lt-ltb, le-ltb, ltb-false, eq-eqb, ne-eqb, eqb-false}
@@ -12,7 +12,7 @@ use Rattle.memory.proofs.Stores.{part-back}
 use Rattle.stream.specs.Stream.{eventBytes}
 use Rattle.trace.specs.declared.Found.{Found}
 use Rattle.trace.specs.Judge.{firstBad}
-use Rattle.trace.specs.Reading.{look}
+use Rattle.trace.specs.Reading.{given, look}
 use Rattle.enet.specs.declared.Enet.{Enet}
 use Rattle.enet.specs.declared.Answered.{Answered}
 use Rattle.enet.specs.Device.{new, reset}
@@ -25,10 +25,10 @@ pub refusal-is : (number block : ℕ) (d : Enet) → d ≡ reset
     → _≡_ {A = Replayed} (record { number = number; block = block; bytes = 0; events = 0; device = d }) (refusal number block)
 refusal-is number block d e = rw e
 
--- what is read has room
-pub look-fits : (t : List ℕ) (room : ℕ) → look t room .number ≡ 0 → (look t room .bytes ≡ length (eventBytes t)) × (length (eventBytes t) ≤ room)
+-- what is read is given as it is, and has room
+pub look-given : (t : List ℕ) (room : ℕ) → look t room .number ≡ 0 → (look t room ≡ given t) × (length (eventBytes t) ≤ room)
 unfolding look
-look-fits t room h =
+look-given t room h =
     by-bool (eqb (firstBad t .number) 0)
     (λ e.
     by-bool (ltb room (length (eventBytes t))) (λ l. absurd (omega (arith, rw (e, l) at h)))
@@ -79,9 +79,11 @@ module _ (t room m out a : List ℕ) (f : Found) (look-is : f ≡ look t (length
       let found = look t (length room) in
       let g : found .number ≡ 0 = rw look-is at h in
       let k : found .events ≤ length a = rw look-is at l in
-      let fits = look-fits t (length room) g in
+      let read = look-given t (length room) g in
+      let fits = read .1 in
+      let all : found .bytes ≡ length (eventBytes t) = ap (λ (x : Found). x .bytes) (read .0) in
       let back : take (length (eventBytes t)) (store room 0 (eventBytes t)) ≡ eventBytes t = part-back room 0 (eventBytes t) (omega arith) in
-      let events : list ≡ eventBytes t = s ∙ rw (look-is, fits .0, r) back in
+      let events : list ≡ eventBytes t = s ∙ rw (look-is, all, r) back in
       let q : playedOf d m′ out′ a′ ≡ playInto a (benchOf (new (found .base) (found .window) .device) m) out (eventBytes t) = rw (b, look-is, events) at p in
       rw (look-is, ← number-done t (length room) (length a) g k)
       (λ j. replaying (record { number = 0; block = 0; bytes = found .bytes; events = found .events; device = q j .bench .device }) (r j) (q j .bench .memory) (q j .output) (q j .answers))
