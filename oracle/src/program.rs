@@ -18,11 +18,22 @@ pub struct Run {
 
 /// Runs `program` with `pieces` as its input, one write a piece, `pause` between them.
 pub fn run(program: &Path, pieces: &[&[u8]], pause: Duration) -> Run {
-    let mut child = Command::new(program)
+    run_command(Command::new(program), pieces, pause)
+}
+
+/// The same in a folder and with arguments; the program is named from there on.
+pub fn run_in(folder: &Path, program: &Path, arguments: &[String], pieces: &[&[u8]]) -> Run {
+    let mut command = Command::new(program);
+    command.current_dir(folder).args(arguments);
+    run_command(command, pieces, Duration::ZERO)
+}
+
+fn run_command(mut command: Command, pieces: &[&[u8]], pause: Duration) -> Run {
+    let mut child = command
         .stdin(Stdio::piped())
         .stdout(Stdio::piped())
         .spawn()
-        .unwrap_or_else(|error| panic!("cannot start {}: {error}", program.display()));
+        .unwrap_or_else(|error| panic!("cannot start {command:?}: {error}"));
     let stdin = child.stdin.take().expect("input is piped");
     let mut stdout = child.stdout.take().expect("output is piped");
     // Writing and reading go side by side, or both programs could wait for each other.

@@ -50,3 +50,39 @@ pub const ENGINE_RUNS: u32 = 15;
 
 // Of one pair: it passes the store's end. Of a whole burst: more than 64 pairs, or lists of different lengths.
 pub const BURST: u32 = 16;
+
+// Of a trace that is read: the length of a block.
+pub const BLOCK_LENGTH: u32 = 17;
+
+// The number of a block.
+pub const BLOCK_NUMBER: u32 = 18;
+
+// The check of a block.
+pub const BLOCK_CHECK: u32 = 19;
+
+// The used length of a block.
+pub const USED_LENGTH: u32 = 20;
+
+// A byte of a block behind the used ones that is not zero.
+pub const ZERO_FILL: u32 = 21;
+
+// A byte that no event can have there, an event that is cut, a header that is cut or of a window that is not allowed.
+pub const EVENT: u32 = 22;
+
+// Too little room for the events.
+pub const EVENT_ROOM: u32 = 23;
+
+// Of a replay: fewer answers than events.
+pub const ANSWERS_SHORT: u32 = 24;
+
+// Of a trace that is written: the event list is not of its form.
+pub const EVENT_LIST: u32 = 25;
+
+// Base and length are no allowed window.
+pub const TRACE_WINDOW: u32 = 26;
+
+// Over 65,536 blocks.
+pub const BLOCKS: u32 = 27;
+
+// Too little room for the blocks.
+pub const BLOCK_ROOM: u32 = 28;

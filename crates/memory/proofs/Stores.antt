@@ -1,8 +1,8 @@
--- The frame rule of memory: a store changes no byte outside it, and reads back where it stored. Assumes nothing.
+-- The frame rule of memory: a store changes no byte outside it, and reads back where it stored; two stores in a row are one. Assumes nothing.
 use Prim.Native.Nat.{ℕ, zero, suc, _+_, _/_, _%_, _^_, _≤_, _<_}
 use mathlib.Core.Path.{_≡_, refl, _∙_}
 use mathlib.Core.Logic.{_⊎_, inl, inr, ⊎-elim}
-use mathlib.Core.List.{List, [], _∷_}
+use mathlib.Core.List.{List, [], _∷_, _++_}
 use native.Mathlib.Omega.{arith}
 use native.Mathlib.Nat.{add-zero, add-suc, suc-add, not-suc-le-zero}
 use lib.ListN.{length, getD, take, drop, set, length-set, length-take, length-drop}
@@ -68,6 +68,15 @@ module _ (m : List ℕ) (at : ℕ) (s : List ℕ) where
       ext-getD 0 (take (length s) (drop at (store m at s))) s same
       (λ k l.
       rw (getD-take (length s) (drop at (store m at s)) k 0 (omega arith), getD-drop at (store m at s) k 0) (byte-back k (omega arith) fits))
+
+sets-append : (a b m : List ℕ) (at : ℕ) → sets (sets m at a) (at + length a) b ≡ sets m at (a ++ b)
+sets-append [] b m at = rw add-zero
+sets-append (x ∷ a) b m at = rw (add-suc at (length a), ← suc-add at (length a)) (sets-append a b (set m at x) (suc at))
+
+-- a store right behind another
+pub store-append : (m : List ℕ) (at next : ℕ) (a b : List ℕ) → next ≡ at + length a → store (store m at a) next b ≡ store m at (a ++ b)
+unfolding store
+store-append m at next a b e = rw e (sets-append a b m at)
 
 -- a word of 32 bits reads back
 pub word-back : (m : List ℕ) (at v : ℕ) → v < 2 ^ 32 → at + 4 ≤ length m → word (storeWord m at v) at ≡ v

@@ -7,7 +7,7 @@ ghost use lib.ListN.{getD, set, take, drop};
 ghost use Rattle.memory.specs.Memory.{wordOf, word, storeWord, store};
 
 // The byte at an offset.
-fn byte(m: &[u8], at: usize) -> u8
+pub fn byte(m: &[u8], at: usize) -> u8
     ensures { λ r. ⌜ r ≡ getD (now (m .entry)) at 0 ⌝ }
 {
     if at < m.len() { m[at] } else { 0 }

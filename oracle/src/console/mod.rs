@@ -46,11 +46,7 @@ impl Console {
         if line.is_empty() || line.starts_with(b"#") {
             return None;
         }
-        let call = match line.len() {
-            0..=LINE_MOST => Call::parse(line),
-            _ => None,
-        };
-        Some(match call {
+        Some(match call(line) {
             Some(call) => self.make(call),
             None => format!("error {}", self.lines),
         })
@@ -127,6 +123,14 @@ impl Console {
     /// The firmware's own reach is the window, whatever is lent to the bench.
     fn places(&self, address: u32, length: usize) -> Option<Range<usize>> {
         self.bench.window.places(address, length as u64)
+    }
+}
+
+/// The call that a line is, if it is one: of the right words and not too long.
+pub fn call(line: &[u8]) -> Option<Call> {
+    match line.len() {
+        0..=LINE_MOST => Call::parse(line),
+        _ => None,
     }
 }
 

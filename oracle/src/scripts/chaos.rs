@@ -49,7 +49,7 @@ fn inside(writer: &mut Writer) -> u32 {
 }
 
 /// A descriptor at any word, over whatever stands there.
-fn descriptor(writer: &mut Writer) {
+pub fn descriptor(writer: &mut Writer) {
     let address = inside(writer);
     let count = match writer.random.below(4) {
         0 => writer.random.pick(&[0, 13, 14, 60, 1_515, 4_095]),
@@ -81,7 +81,7 @@ fn descriptor(writer: &mut Writer) {
 }
 
 /// Starts one engine at a marked place.
-fn engine(writer: &mut Writer) {
+pub fn engine(writer: &mut Writer) {
     let address = writer.mark();
     let (start, next) = writer.random.pick(&[(0x10, 0x1C), (0x30, 0x3C)]);
     writer.say(format!("write {start:x} 0"));

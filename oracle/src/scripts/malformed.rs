@@ -75,7 +75,8 @@ pub fn lines(writer: &mut Writer) {
     writer.observe();
 }
 
-fn line(random: &mut Random) -> Vec<u8> {
+/// A line that is no call, most often.
+pub fn line(random: &mut Random) -> Vec<u8> {
     if random.once_in(6) {
         return malformed_bursts::line(random).into_bytes();
     }

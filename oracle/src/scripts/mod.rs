@@ -5,6 +5,7 @@ mod bursts;
 mod calls;
 mod chaos;
 mod damage;
+pub mod days;
 mod filters;
 pub mod hand_made;
 mod layout;
@@ -20,6 +21,7 @@ mod writer;
 use crate::compare::Script;
 use crate::device::Bench;
 use crate::random::Random;
+pub use malformed::line as malformed_line;
 use writer::Writer;
 
 /// The kinds of random script.

@@ -29,7 +29,7 @@ pub fn along_a_chain(writer: &mut Writer) {
 }
 
 /// Descriptors from the window's start or up to its end, buffers anywhere behind or before.
-fn chain(writer: &mut Writer, count: usize) -> Vec<Place> {
+pub fn chain(writer: &mut Writer, count: usize) -> Vec<Place> {
     let at_end = writer.random.once_in(2);
     let table = match at_end {
         true => writer.end().wrapping_sub(16 * count as u32),
@@ -99,7 +99,7 @@ fn start_address(writer: &mut Writer, own: u32, size: u32, count: usize, at_end:
     }
 }
 
-fn start(writer: &mut Writer, first: u32) {
+pub fn start(writer: &mut Writer, first: u32) {
     let low_bits = writer.random.below(4) as u32;
     writer.say(format!("write 3c {:x}", first | low_bits));
     writer.say("write 30 5");

@@ -1,0 +1,5 @@
+pub mod Blocks
+pub mod Clearing
+pub mod Parts
+pub mod Ways
+pub mod Weights

@@ -1,0 +1,53 @@
+// A block made of its number and its used data.
+ghost use mathlib.Core.Path.{_≡_};
+ghost use mathlib.Core.List.{_++_};
+ghost use lib.ListN.{replicate};
+ghost use Rattle.memory.specs.Memory.{store};
+ghost use Rattle.block.specs.Made.{halfBytes, blockOf};
+use crate::sums::weigh;
+
+// The two numbers at a block's front, lowest bytes first.
+fn head(number: usize, used: usize) -> [u8; 4]
+    ensures { λ r. ⌜ r ≡ halfBytes number ++ halfBytes used ⌝ }
+{
+    [
+        (number % 256) as u8,
+        (number / 256 % 256) as u8,
+        (used % 256) as u8,
+        (used / 256 % 256) as u8,
+    ]
+}
+
+// Puts n zeros from an offset on. How many have room is settled before the loop, so that the compiler can put several at once.
+fn clear(room: &mut [u8], at: usize, n: usize)
+    ensures { λ _. ⌜ now (room .exit) ≡ store (now (room .entry)) at (replicate n 0) ⌝ }
+{
+    if room.len() <= at {
+        return;
+    }
+    let mut left = room.len() - at;
+    if n < left {
+        left = n;
+    }
+    let mut i = 0;
+    while i < left {
+        room[at + i] = 0;
+        i += 1;
+    }
+}
+
+// Puts the block of this number and this used data into the room, from an offset on.
+pub fn put(room: &mut [u8], at: usize, number: usize, used: &[u8])
+    ensures { λ _. ⌜ now (room .exit) ≡ store (now (room .entry)) at (blockOf number (now (used .entry))) ⌝ }
+{
+    if room.len() <= at {
+        return;
+    }
+    let head = head(number, used.len());
+    let kept = memory::part(used, 0, 504);
+    let check = (weigh(0, &head) + weigh(4, kept)) % 65521;
+    memory::store(room, at, &head);
+    memory::store(room, at + 4, kept);
+    clear(room, at + 4 + kept.len(), 504 - kept.len());
+    memory::store_word(room, at + 508, check);
+}

@@ -1,0 +1,4 @@
+pub mod Back
+pub mod Good
+pub mod Lists
+pub mod One

@@ -1,0 +1,4 @@
+pub mod Event
+pub mod Front
+pub mod Sizes
+pub mod Walk

@@ -1,0 +1,1 @@
+// A string of events that is cut short, beside the whole one: proofs/. No code.

@@ -1,0 +1,4 @@
+pub mod Judge
+pub mod Passes
+pub mod Reading
+pub mod Scattered

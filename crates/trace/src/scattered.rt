@@ -1,0 +1,44 @@
+// The used data of a trace's blocks where it lies, in full blocks but for the last.
+ghost use mathlib.Core.Path.{_≡_};
+ghost use Rattle.trace.specs.Scattered.{byteIn, wordIn, sizeIn};
+
+// A byte of it.
+pub fn byte(trace: &[u8], p: usize) -> u8
+    ensures { λ r. ⌜ r ≡ byteIn (now (trace .entry)) p ⌝ }
+{
+    if trace.len() <= p {
+        return 0;
+    }
+    memory::byte(trace, 512 * (p / 504) + 4 + p % 504)
+}
+
+// The number of four bytes.
+fn word(trace: &[u8], p: usize) -> u32
+    ensures { λ r. ⌜ r ≡ wordIn (now (trace .entry)) p ⌝ }
+{
+    if trace.len() <= p {
+        return 0;
+    }
+    let four = [
+        byte(trace, p),
+        byte(trace, p + 1),
+        byte(trace, p + 2),
+        byte(trace, p + 3),
+    ];
+    memory::word(&four, 0)
+}
+
+// The size of the event at a place, where the data has so many bytes; 0 where there is no whole event. Only of a frame are the four
+// bytes behind the first one looked at.
+pub fn size(trace: &[u8], end: usize, p: usize) -> usize
+    ensures { λ r. ⌜ r ≡ sizeIn (now (trace .entry)) end p ⌝ }
+{
+    if end <= p {
+        return 0;
+    }
+    let first = byte(trace, p);
+    if first == 3 {
+        return event::size(first, word(trace, p + 1), end - p);
+    }
+    event::size(first, 0, end - p)
+}

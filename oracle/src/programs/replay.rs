@@ -1,0 +1,58 @@
+//! `replay TRACE MEMORY`.
+
+use super::over_room;
+use crate::device::Bench;
+use crate::numbers::READING_ROOM;
+use crate::trace::{self, Answer, Content, Event};
+use crate::{check, hex};
+use std::fmt::Write;
+
+pub const USAGE: &str = "usage: replay TRACE MEMORY\n";
+
+/// "Of MEMORY at most 98,312 bytes are taken."
+pub const MEMORY_MOST: usize = 98_312;
+
+/// The output that each send is lent: enough for every one.
+const OUTPUT: usize = 1_518;
+
+/// The whole output for two files that can be read.
+pub fn output(trace: &[u8], memory: &[u8]) -> String {
+    // "A file that is longer than the program's room is refused by the number for too little room,
+    // whatever is in it."
+    if over_room(trace.len()) {
+        return format!("refused {READING_ROOM}\n");
+    }
+    match trace::content(trace) {
+        Err(fault) => format!("refused {} {}\n", fault.reason, fault.block),
+        Ok(content) => played(&content, &memory[..memory.len().min(MEMORY_MOST)]),
+    }
+}
+
+fn played(content: &Content, memory: &[u8]) -> String {
+    let window = content.header;
+    let (mut bench, _) = Bench::new(window.base, window.length.into());
+    let mut memory = memory.to_vec();
+    let mut output = vec![0; OUTPUT];
+    let mut text = format!("window {:08x} {}\n", window.base, window.length);
+    for event in trace::events(&content.events) {
+        let answer = event.call(&mut bench, &mut memory, &mut output);
+        writeln!(text, "{}", line(&event, answer, &output)).expect("a string takes all");
+    }
+    let [receive, send] = [bench.receiver, bench.sender]
+        .map(|engine| format!("{} {:08x}", u32::from(engine.running), engine.place));
+    // "`check` is of the window's length, with zeros for what MEMORY lacks."
+    memory.resize(window.length as usize, 0);
+    let check = check::number(&memory);
+    text + &format!("state {receive} {send}\ncheck {check:08x}\n")
+}
+
+/// The line of an event "as the console writes it".
+fn line(event: &Event, answer: Answer, output: &[u8]) -> String {
+    let Answer { number, sent } = answer;
+    match event {
+        Event::Write { .. } => format!("write {number}"),
+        Event::Grant { .. } => format!("grant {number}"),
+        Event::Frame { .. } => format!("frame {number}"),
+        Event::Send => format!("send {number} {}", hex::write(&output[..sent])),
+    }
+}

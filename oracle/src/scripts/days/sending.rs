@@ -1,0 +1,52 @@
+//! Sending along a chain, its descriptors granted again by the grant call.
+
+use super::{grant, send};
+use crate::scripts::layout::Place;
+use crate::scripts::sending::{chain, start};
+use crate::scripts::writer::Writer;
+
+pub fn along_a_chain(writer: &mut Writer) {
+    let length = match writer.random.below(3) {
+        0 => writer.random.between(16, 1_024) * 4,
+        1 => writer.random.between(512, 16_384) * 4,
+        _ => writer.random.between(400, 2_000) * 4,
+    };
+    writer.new_bench(length as u32);
+    let count = writer.random.between(1, (length / 40).min(12));
+    let chain = chain(writer, count);
+    for place in &chain {
+        place.write(writer);
+        writer.marks.push(place.address);
+    }
+    start(writer, chain[0].address);
+    for _ in 0..writer.random.between(8, 60) {
+        step(writer, &chain);
+    }
+}
+
+fn step(writer: &mut Writer, chain: &[Place]) {
+    if !writer.console.bench.sender.running && !writer.random.once_in(4) {
+        let first = writer.random.pick(chain).address;
+        start(writer, first);
+    }
+    match writer.random.below(12) {
+        0..=5 => {
+            send(writer);
+        }
+        6 | 7 => {
+            // What is sent next, most often.
+            let place = writer.console.bench.sender.place;
+            writer.say(format!("grant {place:x}"));
+        }
+        8 => grant(writer),
+        9 => writer.register_write(),
+        10 => {
+            writer.frame();
+        }
+        _ => {
+            let value = writer.start_value();
+            writer.say(format!("write 30 {value:x}"));
+            writer.say(format!("write 3c {:x}", chain[0].address));
+        }
+    }
+}

@@ -1,0 +1,101 @@
+//! The generators make what they say.
+
+use super::*;
+use crate::random::Random;
+use crate::trace;
+
+#[test]
+fn good_traces_are_good_and_of_every_shape() {
+    let mut random = Random::new(11);
+    let mut met: Vec<String> = Vec::new();
+    for _ in 0..400 {
+        let tape = good(&mut random);
+        let content = trace::content(&tape.bytes).unwrap_or_else(|fault| {
+            panic!("{} has {fault:?}", tape.kind);
+        });
+        assert_eq!(content.count as usize, tape.starts.len());
+        assert_eq!(content.header.length as usize, tape.image.len());
+        let used = tape.used(tape.blocks() - 1);
+        match tape.kind.as_str() {
+            "Full" => assert_eq!(used, 504),
+            "OneByte" => assert_eq!(used, 1),
+            "OneLess" => assert_eq!(used, 503),
+            "Empty" => assert_eq!((tape.bytes.len(), used), (512, 6)),
+            _ => {}
+        }
+        met.push(tape.kind);
+    }
+    for shape in SHAPES {
+        assert!(met.contains(&format!("{shape:?}")), "{shape:?}");
+    }
+}
+
+#[test]
+fn each_fault_is_told_by_its_number() {
+    let mut random = Random::new(12);
+    for _ in 0..400 {
+        let tape = good(&mut random);
+        for (fault, number) in FAULTS.into_iter().zip([22, 21, 20, 18, 19, 17]) {
+            let mut tape = tape.clone();
+            let place = random.below(tape.blocks());
+            let Some(name) = fault.put(&mut tape, place, &mut random) else {
+                continue;
+            };
+            let found = trace::content(&tape.bytes).err();
+            let found = found.unwrap_or_else(|| panic!("{name} is no fault"));
+            if name.contains("behind the last block") {
+                // The block before is part-filled and no longer the last, or full.
+                assert!([17, 20].contains(&found.reason), "{name} {found:?}");
+                continue;
+            }
+            assert_eq!((found.reason, found.block), (number, place), "{name}");
+        }
+    }
+}
+
+#[test]
+fn cut_events_are_cut() {
+    let mut random = Random::new(13);
+    let tapes = cut_events(&mut random);
+    let bad = tapes
+        .iter()
+        .filter(|tape| trace::content(&tape.bytes).is_err());
+    assert!(bad.count() > 200);
+    for (place, tape) in cut_headers(&mut random).iter().enumerate() {
+        let found = trace::content(&tape.bytes).err().map(|fault| fault.reason);
+        assert_eq!(found, (place < 5).then_some(22));
+    }
+}
+
+#[test]
+fn of_two_faults_the_first_is_told() {
+    let mut random = Random::new(14);
+    let number = |name: &str| match name {
+        "Event" => 22,
+        "Fill" => 21,
+        "Used" => 20,
+        "Number" => 18,
+        "Check" => 19,
+        _ => 17,
+    };
+    let tapes = pairs_of_faults(&mut random);
+    assert!(tapes.len() > 150);
+    for tape in tapes {
+        let words: Vec<&str> = tape.kind.split(' ').collect();
+        let found = trace::content(&tape.bytes).err().expect("a bad block");
+        let told = found.reason;
+        let (first, last) = (number(words[0]), number(words[words.len() - 1]));
+        match words[..] {
+            // Bytes behind a part-filled last block make it a middle one.
+            _ if told == 20 && (first == 17 || last == 17) => {}
+            [_, "in", "an", ..] => assert_eq!(told, first, "{}", tape.kind),
+            [_, "and", second, ..] => {
+                let both = [first, number(second)];
+                // A fault of the event may stand in data that another made unused.
+                let least = both[0].min(both[1]);
+                assert!(told == least || least == 17, "{} {told}", tape.kind);
+            }
+            _ => panic!("no pair: {}", tape.kind),
+        }
+    }
+}

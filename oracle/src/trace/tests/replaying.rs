@@ -1,0 +1,173 @@
+//! Replay: refusals, and a day worked out by hand.
+
+use crate::check;
+use crate::device::Bench;
+use crate::trace::{block, replay, Event};
+
+/// A window of 128 bytes at 0: a receive descriptor at 0 for 64 bytes at 64, without a next, and a
+/// send descriptor at 16 for 14 bytes at 32, granted and linked to itself.
+fn memory() -> Vec<u8> {
+    let words: [u32; 8] = [64, 64, 0, 0, 14 | 1 << 14, 32, 16, 1 << 16];
+    let mut memory: Vec<u8> = words.iter().flat_map(|word| word.to_le_bytes()).collect();
+    memory.resize(128, 0xA5);
+    memory
+}
+
+fn frame() -> Vec<u8> {
+    check::closed(&[0xFF; 60])
+}
+
+fn day() -> Vec<Event> {
+    let write = |offset, value| Event::Write { offset, value };
+    let frame = || Event::Frame { bytes: frame() };
+    vec![
+        frame(),
+        write(0x10, 5),
+        frame(),
+        Event::Grant { address: 0 },
+        Event::Grant { address: 0 },
+        frame(),
+        Event::Send,
+        write(0x3C, 16),
+        write(0x30, 5),
+        write(0x3C, 16),
+        Event::Send,
+        Event::Send,
+        write(0, 0),
+    ]
+}
+
+const ANSWERS: [u32; 13] = [3, 0, 8, 0, 14, 0, 3, 0, 0, 15, 0, 8, 2];
+
+fn trace(events: &[Event]) -> Vec<u8> {
+    let header = [0, 0, 0, 0, 127, 0];
+    block::all(&[&header[..], &Event::list(events)].concat())
+}
+
+#[test]
+fn a_day_by_hand() {
+    let trace = trace(&day());
+    let list = Event::list(&day());
+    let mut room = vec![0xEE; list.len() + 3];
+    let mut memory = memory();
+    let mut output = vec![0xDD; 1_600];
+    let mut answers = vec![99; ANSWERS.len() + 2];
+    let played = replay(&trace, &mut room, &mut memory, &mut output, &mut answers);
+    assert_eq!((played.number, played.block), (0, 0));
+    assert_eq!((played.bytes, played.events), (list.len() as u64, 13));
+    assert_eq!(answers[..13], ANSWERS);
+    assert_eq!(answers[13..], [99, 99]);
+    assert_eq!(room[..list.len()], list);
+    assert_eq!(room[list.len()..], [0xEE; 3]);
+    assert_eq!(memory[64..], frame());
+    assert_eq!(memory[12..16], [64, 0, 0, 0]);
+    assert_eq!(memory[28..32], [0, 0, 0, 0]);
+    assert!(check::right(&output[..64]));
+    assert_eq!(output[..14], [0xA5; 14]);
+    assert!(output[64..].iter().all(|byte| *byte == 0xDD));
+    let (mut bench, _) = Bench::new(0, 128);
+    let mut again = self::memory();
+    let mut sent = vec![0; 1_518];
+    for event in day() {
+        event.call(&mut bench, &mut again, &mut sent);
+    }
+    assert_eq!(played.bench, bench);
+    assert_eq!(memory, again);
+    assert!(!bench.receiver.running);
+    assert!(bench.sender.running);
+}
+
+#[test]
+fn refusals_leave_row_1_and_all_that_is_lent() {
+    let good = trace(&day());
+    let bytes = Event::list(&day()).len();
+    let mut bad = good.clone();
+    bad[508] ^= 1;
+    for (trace, room, answers, number) in [
+        (&bad, bytes, 13, 19),
+        (&bad, 0, 0, 19),
+        (&good, bytes - 1, 13, 23),
+        (&good, bytes - 1, 0, 23),
+        (&good, bytes, 12, 24),
+        (&good, bytes + 9, 0, 24),
+    ] {
+        let mut room = vec![0xEE; room];
+        let mut memory = memory();
+        let mut output = vec![0xDD; 1_518];
+        let mut answers = vec![99; answers];
+        let before = (room.clone(), memory.clone(), answers.clone());
+        let played = replay(trace, &mut room, &mut memory, &mut output, &mut answers);
+        assert_eq!((played.number, played.block), (number, 0));
+        assert_eq!((played.bytes, played.events), (0, 0));
+        assert_eq!(played.bench, Bench::new(1, 0).0);
+        assert_eq!(before, (room, memory, answers));
+        assert!(output.iter().all(|byte| *byte == 0xDD));
+    }
+}
+
+#[test]
+fn memory_of_another_length_is_no_refusal() {
+    let events = day();
+    let mut room = vec![0; Event::list(&events).len()];
+    let mut memory = vec![7; 124];
+    let mut output = vec![0xDD; 1_518];
+    let mut answers = vec![99; 13];
+    let played = replay(
+        &trace(&events),
+        &mut room,
+        &mut memory,
+        &mut output,
+        &mut answers,
+    );
+    assert_eq!(played.number, 0);
+    let wanted = [11, 0, 11, 11, 11, 11, 11, 0, 0, 15, 11, 11, 2];
+    assert_eq!(answers, wanted);
+    assert_eq!(memory, [7; 124]);
+}
+
+#[test]
+fn a_short_output_answers_each_send() {
+    let events = [Event::Send, Event::Send];
+    let mut room = [0; 2];
+    let mut answers = [99; 2];
+    for (length, number) in [(0, 9), (1_517, 9), (1_518, 3)] {
+        let mut output = vec![0xDD; length];
+        let mut memory = memory();
+        replay(
+            &trace(&events),
+            &mut room,
+            &mut memory,
+            &mut output,
+            &mut answers,
+        );
+        assert_eq!(answers, [number; 2]);
+        assert!(output.iter().all(|byte| *byte == 0xDD));
+    }
+}
+
+#[test]
+fn each_send_is_lent_the_whole_output() {
+    let memory_before = memory();
+    let write = |offset, value| Event::Write { offset, value };
+    let events = [
+        write(0x3C, 16),
+        write(0x30, 5),
+        Event::Send,
+        // The descriptor is granted again, as a grant writes the same word.
+        Event::Grant { address: 16 },
+        Event::Send,
+    ];
+    let mut room = [0; 40];
+    let mut answers = [99; 5];
+    let mut output = vec![0xDD; 1_518];
+    let mut memory = memory_before;
+    replay(
+        &trace(&events),
+        &mut room,
+        &mut memory,
+        &mut output,
+        &mut answers,
+    );
+    assert_eq!(answers, [0; 5]);
+    assert_eq!(output[64..128], [0xDD; 64]);
+}
