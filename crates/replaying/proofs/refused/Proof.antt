@@ -1,0 +1,8 @@
+-- `replaying::refused` meets its contract. Assumes nothing.
+use borrow.Author.Needs.{needs}
+use Rattle.replaying.proofs.Laws.{refusal-is}
+use Rattle.replaying.proofs.refused.Statement.{statement}
+use Rattle.replaying.proofs.refused.Tie as tie
+
+pub refused-spec : {M : Type 1} → statement M
+refused-spec = tie.close (tie.spec (λ c κs. search needs) (λ c. search refusal-is))
