@@ -1,0 +1,37 @@
+-- A turn of the loop that puts numbers at a list's front, and what each function leaves. Assumes nothing.
+use Prim.Native.Nat.{ℕ, _+_, _<_}
+use mathlib.Core.Path.{_≡_, sym, ap, _∙_}
+use mathlib.Core.List.{List}
+use native.Mathlib.Nat.{zero-add}
+use lib.ListN.{length, getD, drop, set}
+use lib.Seq.{sets}
+use Rattle.memory.specs.Memory.{store}
+use Rattle.memory.proofs.Laws.{sets-turn}
+use Rattle.trace.specs.declared.Found.{Found}
+use Rattle.trace.specs.Reading.{readingOf, read}
+use Rattle.trace_writing.specs.declared.Written.{Written}
+use Rattle.trace_writing.specs.Writing.{writingOf, write}
+use Rattle.replaying.specs.declared.Replayed.{Replayed}
+use Rattle.replaying.specs.Replay.{replaying, replay}
+use Rattle.trace_trial.specs.Numbers.{foundNumbers, writtenNumbers, replayedNumbers, left, replayed}
+
+pub front-turn : (m s : List ℕ) (i : ℕ) → i < length s → sets (set m i (getD s i 0)) (0 + (i + 1)) (drop (i + 1) s) ≡ sets m (0 + i) (drop i s)
+front-turn m s i h =
+    let z : set m (0 + i) (getD s i 0) ≡ set m i (getD s i 0) = rw (zero-add i) in
+    ap (λ (l : List ℕ). sets l (0 + (i + 1)) (drop (i + 1) s)) (sym z) ∙ sets-turn m s 0 i h
+
+-- ---- what each leaves, and its numbers
+
+pub read-left : (t room next found after : List ℕ) (f : Found) → readingOf f next ≡ read t room → after ≡ store found 0 (foundNumbers f)
+    → (next ≡ read t room .room) × (after ≡ store found 0 (foundNumbers (read t room .found)))
+read-left t room next found after f e q = (rw (← e), rw (← e) q)
+
+pub write-left : (base window : ℕ) (events room next found after : List ℕ) (w : Written) → writingOf w next ≡ write base window events room
+    → after ≡ store found 0 (writtenNumbers w)
+    → (next ≡ write base window events room .room) × (after ≡ store found 0 (writtenNumbers (write base window events room .written)))
+write-left base window events room next found after w e q = (rw (← e), rw (← e) q)
+
+pub replay-left : (t room memory output answers found room₁ memory₁ output₁ answers₁ found₁ l : List ℕ) (r : Replayed)
+    → replaying r room₁ memory₁ output₁ answers₁ ≡ replay t room memory output answers → l ≡ replayedNumbers r → found₁ ≡ store found 0 l
+    → left room₁ memory₁ output₁ answers₁ found₁ ≡ replayed t room memory output answers found
+replay-left t room memory output answers found room₁ memory₁ output₁ answers₁ found₁ l r e n q = rw (← e, q, n)
