@@ -3,7 +3,7 @@ use Prim.Native.Nat.{ℕ, _≤_, _<_}
 use mathlib.Core.Path.{_≡_, refl, ap, _∙_}
 use mathlib.Core.List.{List}
 use native.Mathlib.Omega.{arith}
-use borrow.Author.Tests.{lt-ltb, le-ltb, ltb-false, eq-eqb, ne-eqb, eqb-false}
+use borrow.Author.Tests.{lt-ltb, le-ltb, ltb-false, eq-eqb, ne-eqb, eqb-true, eqb-false}
 use lib.Dec.{eqb, ltb}
 use lib.ListN.{length, take}
 use Rattle.rules.proofs.Choices.{by-bool, if-yes, if-no}
@@ -25,7 +25,14 @@ pub refusal-is : (number block : ℕ) (d : Enet) → d ≡ reset
     → _≡_ {A = Replayed} (record { number = number; block = block; bytes = 0; events = 0; device = d }) (refusal number block)
 refusal-is number block d e = rw e
 
--- what is read is given as it is, and has room
+-- what is read has no bad block
+pub look-good : (t : List ℕ) (room : ℕ) → look t room .number ≡ 0 → firstBad t .number ≡ 0
+unfolding look
+look-good t room h =
+    by-bool (eqb (firstBad t .number) 0) (λ e. eqb-true (firstBad t .number) 0 e)
+    (λ e. absurd (eqb-false (firstBad t .number) 0 e (rw e at h)))
+
+-- it is given as it is, and has room
 pub look-given : (t : List ℕ) (room : ℕ) → look t room .number ≡ 0 → (look t room ≡ given t) × (length (eventBytes t) ≤ room)
 unfolding look
 look-given t room h =
