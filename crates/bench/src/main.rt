@@ -1,8 +1,5 @@
 // The bench console. It reads calls from standard input until its end, one a line, and writes what crate console answers:
 // docs/CONSOLE.md.
-mod lines;
-
-ghost use Prim.Native.Nat.{_≤_};
 use commands::Console;
 use commands::Told;
 use lines::Input;
@@ -10,13 +7,41 @@ use lines::Input;
 // The greatest window, and eight bytes to lend too much.
 const MEMORY: usize = 65544;
 
+// Two of the longest answers.
+const TEXT: usize = 262144;
+
+// The longest answer: the digits of 65,536 bytes, and words and numbers of fewer than 64 characters.
+const LONGEST: usize = 131136;
+
+// So many bytes may wait before it.
+const MOST: usize = TEXT - LONGEST;
+
+// Writes what waits where it is more than `most`, and answers how much waits then.
+fn write_past(most: usize, text: &[u8; TEXT], waiting: usize) -> usize {
+    if waiting <= most {
+        return waiting;
+    }
+    io::write_all(libc::STDOUT_FILENO, memory::part(text, 0, waiting));
+    0
+}
+
+// Writes what waits. Behind a line, where its answer might have no room; else all of it, before the next chunk is read: so
+// whoever types lines sees the answer of each before the next read.
+fn written(input: Input, text: &[u8; TEXT], waiting: usize) -> usize {
+    if input.ended {
+        return write_past(MOST, text, waiting);
+    }
+    write_past(0, text, waiting)
+}
+
 // Answers the line that a part of the input ended, where it ended one.
 fn answered(
     console: Console,
     input: Input,
+    waiting: usize,
     memory: &mut [u8; MEMORY],
     line: &[u8; lines::LINE],
-    text: &mut [u8; lines::TEXT],
+    text: &mut [u8; TEXT],
 ) -> Told {
     if input.ended {
         return console::answer(
@@ -24,12 +49,12 @@ fn answered(
             memory,
             memory::part(line, 0, input.last),
             text,
-            input.waiting,
+            waiting,
         );
     }
     Told {
         console,
-        end: input.waiting,
+        end: waiting,
     }
 }
 
@@ -41,13 +66,13 @@ fn answer_all(
     memory: &mut [u8; MEMORY],
     chunk: &mut [u8; lines::CHUNK],
     line: &mut [u8; lines::LINE],
-    text: &mut [u8; lines::TEXT],
-) -> usize
-    requires { ⌜ (input .from ≤ input .to) × (input .to ≤ 65536) ⌝ }
-{
+    text: &mut [u8; TEXT],
+) -> usize {
     while input.parts > 0 {
-        input = lines::take(input, told.end, chunk, line, text);
-        told = answered(told.console, input, memory, line, text);
+        input = lines::take(input, chunk, line);
+        let waiting = written(input, text, told.end);
+        input = lines::more(input, chunk);
+        told = answered(told.console, input, waiting, memory, line, text);
     }
     told.end
 }
@@ -56,21 +81,12 @@ fn main() {
     let mut memory = [0u8; MEMORY];
     let mut chunk = [0u8; lines::CHUNK];
     let mut line = [0u8; lines::LINE];
-    let mut text = [0u8; lines::TEXT];
+    let mut text = [0u8; TEXT];
     let told = Told {
         console: console::reset(),
         end: 0,
     };
-    // Before the first read.
-    let input = Input {
-        from: 0,
-        to: 0,
-        kept: 0,
-        ended: false,
-        last: 0,
-        waiting: 0,
-        parts: u64::MAX,
-    };
+    let input = lines::begin();
     let end = answer_all(told, input, &mut memory, &mut chunk, &mut line, &mut text);
-    lines::write_past(0, &text, end);
+    write_past(0, &text, end);
 }

@@ -1,31 +1,35 @@
 -- `bench::answer_all` is safe and ends: each turn takes a part of the input. Assumes nothing.
 use borrow.Author.Needs.{needs}
-use native.Mathlib.Omega.{arith}
 use Prim.Native.Nat.{_≤_}
 use Rattle.bench.proofs.answer_all.Statement.{statement}
 use Rattle.bench.proofs.answer_all.Tie as tie
 
 abbrev Inv-loop : tie.InvT-loop
-Inv-loop told₀ input₀ memory₀ chunk₀ line₀ text₀ told input memory chunk line text =
-    (input .from ≤ input .to) × (input .to ≤ 65536)
+Inv-loop told₀ input₀ memory₀ chunk₀ line₀ text₀ told input memory chunk line text = 0 ≤ input .parts
 
 abbrev μ-loop : tie.MeasureT-loop
 μ-loop told₀ input₀ memory₀ chunk₀ line₀ text₀ told input memory chunk line text = input .parts
 
 loop-holds : tie.Need-loop-holds Inv-loop μ-loop
-loop-holds c = omega arith
+loop-holds c = search needs
 
 take-requires : tie.Need-take-requires Inv-loop μ-loop
 take-requires c κs = search needs
+
+written-requires : tie.Need-written-requires Inv-loop μ-loop
+written-requires c κs = search needs
+
+more-requires : tie.Need-more-requires Inv-loop μ-loop
+more-requires c κs = search needs
 
 answered-requires : tie.Need-answered-requires Inv-loop μ-loop
 answered-requires c κs = search needs
 
 loop-less : tie.Need-loop-less Inv-loop μ-loop
-loop-less c = omega arith
+loop-less c = search needs
 
 loop-again : tie.Need-loop-again Inv-loop μ-loop
-loop-again c = omega arith
+loop-again c = search needs
 
 returns : tie.Need-returns Inv-loop μ-loop
 returns c = search needs
@@ -38,6 +42,8 @@ answer-all-spec =
     μ-loop
     loop-holds
     take-requires
+    written-requires
+    more-requires
     answered-requires
     loop-less
     loop-again
