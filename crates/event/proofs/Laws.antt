@@ -39,6 +39,13 @@ pub size-from : (s : List ℕ) (p first four left n : ℕ) → first ≡ getD s 
 size-from s p first four left n a b c d =
     d ∙ rw (a, b, c, ← byte-from s p, ← word-from s p 1, ← length-drop p s) (size-is (drop p s))
 
+-- and it lies in the list
+pub size-room : (s : List ℕ) (p n : ℕ) → n ≡ sizeOf (front (drop p s)) → p ≤ length s → p + n ≤ length s
+size-room s p n e h =
+    let fits = size-fits (drop p s) in
+    let l = length-drop p s in
+    omega arith
+
 pub none-from : (s : List ℕ) (p : ℕ) → length s ≤ p → 0 ≡ sizeOf (front (drop p s))
 none-from s p h =
     let e : length (drop p s) ≡ 0 = length-drop p s ∙ omega arith in
@@ -110,12 +117,7 @@ walking-begins s n e =
     (e, (omega arith, (omega arith, rw f (same _ _ _ _ _ (zero-add _) (zero-add _)))))
 
 pub walking-room : (s : List ℕ) (place events n : ℕ) → Walking s place events n → place + n ≤ length s
-walking-room s place events n i =
-    let fits = size-fits (drop place s) in
-    let l = length-drop place s in
-    let k = i .0 in
-    let a = i .1 .1 .0 in
-    omega arith
+walking-room s place events n i = size-room s place n (i .0) (i .1 .1 .0)
 
 pub walking-on : (s : List ℕ) (place events n m : ℕ) → Walking s place events n → (n ≡ 0 → ⊥) → m ≡ sizeOf (front (drop (place + n) s))
     → Walking s (place + n) (events + 1) m
