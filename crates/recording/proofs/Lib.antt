@@ -1,0 +1,3 @@
+pub mod DayLaws
+pub mod ByteLaws
+pub mod LineLaws

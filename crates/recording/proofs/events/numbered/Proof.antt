@@ -1,0 +1,15 @@
+use borrow.Author.Needs.{needs}
+use Rattle.memory.specs.Memory.{wordBytes}
+use Rattle.recording.proofs.events.numbered.Statement.{statement}
+use Rattle.recording.proofs.events.numbered.Tie as tie
+
+pub numbered-spec : {M : Type 1} → statement M
+unfolding wordBytes
+numbered-spec =
+    tie.close
+    (tie.spec
+    (λ c. search needs)
+    (λ c. search needs)
+    (λ c. search needs)
+    (λ c. search needs)
+    (λ c. search needs))
