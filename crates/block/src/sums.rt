@@ -4,8 +4,7 @@ ghost use mathlib.Core.Path.{_≡_};
 ghost use lib.ListN.{length};
 ghost use Rattle.block.specs.Fields.{weighted, checkOf};
 
-// Each byte times its position plus one, summed. No list is longer than a block, so that the sum stays far below 2^32. No weight is
-// over 512: the remainder changes none, but tells the compiler that bytes can be multiplied as numbers of 16 bits, eight at once.
+// Each byte times its position plus one, summed. No list is longer than a block, so that the sum stays far below 2^32.
 pub fn weigh(position: u32, bytes: &[u8]) -> u32
     requires { ⌜ (position ≤ 4) × (length (now bytes) ≤ 508) ⌝ }
     ensures { λ r. ⌜ (r ≡ weighted position (now (bytes .entry))) × (r ≤ 508 * 130560) ⌝ }
@@ -15,7 +14,7 @@ pub fn weigh(position: u32, bytes: &[u8]) -> u32
     let mut i = 0;
     while i < bytes.len() {
         weight += 1;
-        sum += bytes[i] as u32 * (weight % 1024);
+        sum += bytes[i] as u32 * weight;
         i += 1;
     }
     sum

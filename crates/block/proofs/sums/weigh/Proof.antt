@@ -1,6 +1,6 @@
 -- `block::sums::weigh` meets its contract. The loop's invariant: the sum of the bytes passed and that of the bytes left are the whole sum, and each
 -- byte passed added at most 130,560, 255 times 512. Assumes nothing.
-use Prim.Native.Nat.{_+_, _*_, _%_, _≤_, _-_}
+use Prim.Native.Nat.{_+_, _*_, _≤_, _-_}
 use mathlib.Core.Path.{_≡_}
 use native.Mathlib.Nat.{zero-add}
 use native.Mathlib.Omega.{arith}
@@ -30,7 +30,7 @@ shared-slice-read-sum c = omega arith
 
 -- what a byte adds
 small : (c : lts.After-shared-slice-known reads.Pre reads.Post Inv-loop μ-loop)
-    → getD (c .before .before .before .args .bytes .now) (c .before .before .loop .i) 0 * ((c .before .before .loop .weight + 1) % 1024) ≤ 130560
+    → getD (c .before .before .before .args .bytes .now) (c .before .before .loop .i) 0 * (c .before .before .loop .weight + 1) ≤ 130560
 small c = term-small _ _ (omega (arith, c .shared-slice-known .given (c .before .before .loop .i))) (omega arith)
 
 cast-sum : tie.Need-cast-sum Inv-loop μ-loop
@@ -51,8 +51,7 @@ loop-less c = omega arith
 loop-again : tie.Need-loop-again Inv-loop μ-loop
 loop-again c =
     let l = c .before .before .loop in
-    let same : (l .weight + 1) % 1024 ≡ l .weight + 1 = omega arith in
-    (omega arith, (omega arith, (omega (arith, small c), rw same (weigh-turn (c .before .before .before .args .bytes .now) (l .weight) (l .i) (l .sum) _ (omega arith) (l .inv .1 .1 .1)))))
+    (omega arith, (omega arith, (omega (arith, small c), weigh-turn (c .before .before .before .args .bytes .now) (l .weight) (l .i) (l .sum) _ (omega arith) (l .inv .1 .1 .1))))
 
 returns : tie.Need-returns Inv-loop μ-loop
 returns c =
