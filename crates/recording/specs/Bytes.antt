@@ -1,6 +1,6 @@
 -- The bytes of a recorded day: the memory image and the event list, and how a line changes them. Assumes nothing.
-use Prim.Native.Nat.{ℕ, _+_}
-use mathlib.Core.Bool.{Bool, _&&_, _||_}
+use Prim.Native.Nat.{ℕ}
+use mathlib.Core.Bool.{Bool, _&&_}
 use mathlib.Core.List.{List}
 use lib.Dec.{eqb, ltb}
 use lib.ListN.{length}
@@ -8,6 +8,7 @@ use Rattle.rules.specs.Choice.{if_then_else_}
 use Rattle.memory.specs.Memory.{store}
 use Rattle.window.specs.Window.{inWindow, offset}
 use Rattle.event.specs.Event.{send, bytesOf}
+use Rattle.event_list.specs.Put.{put}
 use Rattle.recording.specs.declared.Day.{Day}
 use Rattle.recording.specs.Day.{failed, grown, overflown}
 
@@ -38,16 +39,17 @@ pub record Listed : Type 0 where
 abbrev pub listed : Day → List ℕ → Listed
 listed d l = record { day = d; list = l }
 
--- "More events than the program has room for": no room for so many bytes more. From then on nothing is put into the list
-abbrev pub noRoom : Day → ℕ → ℕ → Bool
-noRoom d room n = d .full || ltb room (d .bytes + n)
+-- where the next event goes: behind all of the list once one had no room, so that nothing is put into it any more
+abbrev pub place : Day → ℕ → ℕ
+place d room = if d .full then room else d .bytes
+
+-- an event whose bytes end there, or, by 0, one without room: "More events than the program has room for"
+unfoldable pub happened : Day → ℕ → Day
+happened d end = if eqb end 0 then overflown d else grown d end
 
 -- an event of these bytes behind the others
 unfoldable pub append : Day → List ℕ → List ℕ → Listed
-append d l s =
-    if noRoom d (length l) (length s)
-    then listed (overflown d) l
-    else listed (grown d (d .bytes + length s)) (store l (d .bytes) s)
+append d l s = let p = put l (place d (length l)) s in listed (happened d (p .end)) (p .list)
 
 -- "`send` with a room of 1,518 or more"
 unfoldable pub sendInto : Day → List ℕ → ℕ → Listed

@@ -1,6 +1,5 @@
 use borrow.Author.Needs.{needs}
-use Rattle.recording.proofs.ByteLaws.{event-named}
-use Rattle.commands.proofs.Named.{named-short}
+use Rattle.recording.proofs.ByteLaws.{frame-appended}
 use Rattle.recording.proofs.events.frame.Statement.{statement}
 use Rattle.recording.proofs.events.frame.Tie as tie
 
@@ -11,8 +10,10 @@ frame-spec =
     (λ c κs. search needs)
     (λ c. search needs)
     (λ c κs. search needs)
+    (λ c κs. search needs)
     (λ c. search needs)
     (λ c κs. search needs)
-    (λ c κs. search named-short)
+    (λ c κs. search needs)
+    (λ c κs. search needs)
     (λ c. search needs)
-    (λ c. search event-named))
+    (λ c. search frame-appended))

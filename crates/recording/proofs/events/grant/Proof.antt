@@ -1,5 +1,5 @@
 use borrow.Author.Needs.{needs}
-use Rattle.recording.proofs.ByteLaws.{event-granted}
+use Rattle.recording.proofs.ByteLaws.{appended}
 use Rattle.recording.proofs.events.grant.Statement.{statement}
 use Rattle.recording.proofs.events.grant.Tie as tie
 
@@ -8,8 +8,7 @@ grant-spec =
     tie.close
     (tie.spec
     (λ c κs. search needs)
-    (λ c. search needs)
-    (λ c. search needs)
+    (λ c κs. search needs)
     (λ c κs. search needs)
     (λ c. search needs)
-    (λ c. search event-granted))
+    (λ c. search appended))

@@ -1,5 +1,5 @@
 use borrow.Author.Needs.{needs}
-use Rattle.recording.proofs.ByteLaws.{send-short, send-done}
+use Rattle.recording.proofs.ByteLaws.{send-short, send-appended}
 use Rattle.recording.proofs.events.send.Statement.{statement}
 use Rattle.recording.proofs.events.send.Tie as tie
 
@@ -9,8 +9,8 @@ send-spec =
     (tie.spec
     (λ c κs. search needs)
     (λ c. search send-short)
-    (λ c. search needs)
-    (λ c. search needs)
+    (λ c κs. search needs)
+    (λ c κs. search needs)
     (λ c κs. search needs)
     (λ c. search needs)
-    (λ c. search send-done))
+    (λ c. search send-appended))

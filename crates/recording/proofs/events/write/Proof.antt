@@ -1,5 +1,5 @@
 use borrow.Author.Needs.{needs}
-use Rattle.recording.proofs.ByteLaws.{event-whole}
+use Rattle.recording.proofs.ByteLaws.{appended}
 use Rattle.recording.proofs.events.write.Statement.{statement}
 use Rattle.recording.proofs.events.write.Tie as tie
 
@@ -8,8 +8,7 @@ write-spec =
     tie.close
     (tie.spec
     (λ c κs. search needs)
-    (λ c. search needs)
-    (λ c. search needs)
+    (λ c κs. search needs)
     (λ c κs. search needs)
     (λ c. search needs)
-    (λ c. search event-whole))
+    (λ c. search appended))

@@ -1,7 +1,7 @@
 use borrow.Author.Needs.{needs}
 use Rattle.memory.specs.Memory.{wordBytes}
-use Rattle.recording.proofs.events.numbered.Statement.{statement}
-use Rattle.recording.proofs.events.numbered.Tie as tie
+use Rattle.event_list.proofs.numbered.Statement.{statement}
+use Rattle.event_list.proofs.numbered.Tie as tie
 
 pub numbered-spec : {M : Type 1} → statement M
 unfolding wordBytes
