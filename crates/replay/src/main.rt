@@ -13,9 +13,12 @@ const EVENTS: usize = 2_064_378;
 // The most bytes that are taken of the memory image.
 const MEMORY: usize = 98_312;
 
+// No argument that the system hands to a program is longer.
+const NAME: usize = 131_072;
+
 // Reads the file that an argument names into the buffer, or says that it cannot be read.
 fn load(argument: usize, buffer: &mut [u8]) -> Got {
-    let mut name = [0u8; 4096];
+    let mut name = [0u8; NAME];
     let n = os::arg(argument, &mut name);
     let path = memory::part(&name, 0, n);
     let got = files::read(path, buffer);
