@@ -22,14 +22,24 @@ fn size(blocks: usize) -> usize {
     TRACE
 }
 
-// Makes both files of the names that the program was started with, and says so.
+// Puts a name that the program was started with at the front of a buffer, and answers its length.
+fn argument(i: usize, name: &mut [u8; NAME]) -> usize {
+    os::arg(i, name)
+}
+
+// The name of so many characters.
+fn named(name: &[u8; NAME], n: usize) -> &[u8] {
+    memory::part(name, 0, n)
+}
+
+// Makes both files of those names, and says so.
 fn made(day: Day, trace: &[u8], image: &[u8], blocks: usize) {
     let mut first = [0u8; NAME];
-    let n = os::arg(1, &mut first);
+    let n = argument(1, &mut first);
     let mut second = [0u8; NAME];
-    let k = os::arg(2, &mut second);
-    let one = memory::part(&first, 0, n);
-    let two = memory::part(&second, 0, k);
+    let k = argument(2, &mut second);
+    let one = named(&first, n);
+    let two = named(&second, k);
     let failed = files::make_both(one, trace, two, image);
     if failed == 1 {
         messages::named(b"error", one);
