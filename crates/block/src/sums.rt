@@ -37,7 +37,7 @@ fn total(bytes: &[u8]) -> u32
 
 // Each byte times its position plus one, summed. No byte stands behind a block's 508, so that the weights stay below 512 and the
 // sum far below 2^32: a weight is its remainder by 256, and 256 more from the byte at 255 on.
-pub fn weigh(position: u32, bytes: &[u8]) -> u32
+pub(crate) fn weigh(position: u32, bytes: &[u8]) -> u32
     requires { ⌜ (position ≤ 4) × (position + length (now bytes) ≤ 508) ⌝ }
     ensures { λ r. ⌜ (r ≡ weighted position (now (bytes .entry))) × (r ≤ 508 * 130560) ⌝ }
 {
@@ -45,7 +45,7 @@ pub fn weigh(position: u32, bytes: &[u8]) -> u32
 }
 
 // The check that a block's bytes 0 to 507 ask for.
-pub fn check(block: &[u8]) -> u32
+pub(crate) fn check(block: &[u8]) -> u32
     ensures { λ r. ⌜ r ≡ checkOf (now (block .entry)) ⌝ }
 {
     weigh(0, memory::part(block, 0, 508)) % 65521

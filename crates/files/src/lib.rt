@@ -4,6 +4,7 @@
 mod placing;
 mod reading;
 mod temporary;
+mod verifying;
 
 ghost use Prim.Native.Nat.{_≤_};
 ghost use lib.ListN.{length};
@@ -38,17 +39,18 @@ pub fn make_both(first: &[u8], a: &[u8], second: &[u8], b: &[u8]) -> u32
     ensures { λ r. ⌜ r ≤ 2 ⌝ }
 {
     let mut one = [0u8; NAME];
-    let n = written(first, a, &mut one);
+    let n = written(first, second, a, &mut one);
     if n == 0 {
         return 1;
     }
     let mut two = [0u8; NAME];
     let k = second_written(first, second, b, &mut two);
     let mut kept = [0u8; NAME];
-    let j = written(first, b"", &mut kept);
+    let j = written(first, second, b"", &mut kept);
     placing::place_both(
         named(&one, n),
         first,
+        a,
         named(&kept, j),
         named(&two, k),
         second,
@@ -60,5 +62,5 @@ fn second_written(first: &[u8], second: &[u8], b: &[u8], name: &mut [u8; NAME]) 
     if check::same(first, second) {
         return 0;
     }
-    written(second, b, name)
+    written(second, first, b, name)
 }

@@ -1,6 +1,7 @@
 // Files that were written under temporary names, put in their places. An empty name is that of a file that could not be
 // written: the system finds no file under it.
 ghost use Prim.Native.Nat.{_≤_};
+use crate::verifying::holds;
 
 // Puts a file in its place, or removes it where it cannot stand there.
 fn place(from: &[u8], path: &[u8]) -> bool {
@@ -82,8 +83,16 @@ fn place_first(before: Before, one: &[u8], first: &[u8]) -> bool {
     false
 }
 
-// Puts both files in their places, the first with what was there set aside until the second is in its place too.
-pub(crate) fn place_both(one: &[u8], first: &[u8], kept: &[u8], two: &[u8], second: &[u8]) -> u32
+// Puts both files in their places, the first with what was there set aside until the second is in its place too. Where both
+// names are of one file the second has taken the first's place: then what was there is put back.
+pub(crate) fn place_both(
+    one: &[u8],
+    first: &[u8],
+    a: &[u8],
+    kept: &[u8],
+    two: &[u8],
+    second: &[u8],
+) -> u32
     ensures { λ r. ⌜ r ≤ 2 ⌝ }
 {
     let before = set_aside(first, kept);
@@ -93,6 +102,10 @@ pub(crate) fn place_both(one: &[u8], first: &[u8], kept: &[u8], two: &[u8], seco
         return 1;
     }
     if !place(two, second) {
+        take_back(before, kept, first);
+        return 2;
+    }
+    if !holds(first, a) {
         take_back(before, kept, first);
         return 2;
     }

@@ -56,13 +56,30 @@ fn filled(fd: i32, bytes: &[u8]) -> bool {
     if whole { closed == 0 } else { false }
 }
 
-// A file of these bytes under a new name beside another's, which is put at the front of `name`. Answers the name's length, and
+// The last part of a name, behind its folder.
+fn last(path: &[u8]) -> &[u8] {
+    memory::part(path, folder(path), path.len())
+}
+
+// Makes a file of a name that is free. A name that ends as one of the two that are asked for may be that one, however its folder
+// is written: it is passed over.
+fn made(name: &[u8], path: &[u8], other: &[u8]) -> i32 {
+    if check::same(last(name), last(path)) {
+        return -1;
+    }
+    if check::same(last(name), last(other)) {
+        return -1;
+    }
+    os::create(name)
+}
+
+// A file of these bytes under a new name beside another's, one of two that are asked for; it is put at the front of `name`. Answers the name's length, and
 // 0 where it cannot be written; then there is none.
-pub(crate) fn written(path: &[u8], bytes: &[u8], name: &mut [u8; NAME]) -> usize {
+pub(crate) fn written(path: &[u8], other: &[u8], bytes: &[u8], name: &mut [u8; NAME]) -> usize {
     let mut i = 0;
     while i < TRIES {
         let n = beside(path, i, name);
-        let fd = os::create(named(name, n));
+        let fd = made(named(name, n), path, other);
         if 0 <= fd {
             if filled(fd, bytes) {
                 return n;

@@ -3,7 +3,7 @@ ghost use mathlib.Core.Path.{_≡_};
 ghost use Rattle.trace.specs.Scattered.{byteIn, wordIn, sizeIn};
 
 // A byte of it.
-pub fn byte(trace: &[u8], p: usize) -> u8
+pub(crate) fn byte(trace: &[u8], p: usize) -> u8
     ensures { λ r. ⌜ r ≡ byteIn (now (trace .entry)) p ⌝ }
 {
     if trace.len() <= p {
@@ -30,7 +30,7 @@ fn word(trace: &[u8], p: usize) -> u32
 
 // The size of the event at a place, where the data has so many bytes; 0 where there is no whole event. Only of a frame are the four
 // bytes behind the first one looked at.
-pub fn size(trace: &[u8], end: usize, p: usize) -> usize
+pub(crate) fn size(trace: &[u8], end: usize, p: usize) -> usize
     ensures { λ r. ⌜ r ≡ sizeIn (now (trace .entry)) end p ⌝ }
 {
     if end <= p {

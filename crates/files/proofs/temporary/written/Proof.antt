@@ -5,10 +5,10 @@ use Rattle.files.proofs.temporary.written.Statement.{statement}
 use Rattle.files.proofs.temporary.written.Tie as tie
 
 abbrev Inv-loop : tie.InvT-loop
-Inv-loop path bytes name₀ i₀ name i = i ≤ 110
+Inv-loop path other bytes name₀ i₀ name i = i ≤ 110
 
 abbrev μ-loop : tie.MeasureT-loop
-μ-loop path bytes name₀ i₀ name i = 110 - i
+μ-loop path other bytes name₀ i₀ name i = 110 - i
 
 loop-holds : tie.Need-loop-holds Inv-loop μ-loop
 loop-holds c = search needs
@@ -19,8 +19,8 @@ beside-requires c κs = search needs
 named-requires : tie.Need-named-requires Inv-loop μ-loop
 named-requires c κs = search needs
 
-create-requires : tie.Need-create-requires Inv-loop μ-loop
-create-requires c κs = search needs
+made-requires : tie.Need-made-requires Inv-loop μ-loop
+made-requires c κs = search needs
 
 filled-requires : tie.Need-filled-requires Inv-loop μ-loop
 filled-requires c κs = search needs
@@ -58,7 +58,7 @@ written-spec =
     loop-holds
     beside-requires
     named-requires
-    create-requires
+    made-requires
     filled-requires
     returns
     named-requires-2
