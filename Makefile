@@ -12,18 +12,20 @@ export TMPDIR := $(shell tools/scratch)
 # Scripts leave no compiled files beside them.
 export PYTHONDONTWRITEBYTECODE = 1
 
-.PHONY: help day test programs library host oracle outside fuzz clean
+.PHONY: help day replay test programs library host oracle outside fuzz clean
 
 help:
 	@echo 'make day         a sample bench day: report on standard output, picture in target/day/day.svg'
+	@echo 'make replay      a sample day recorded and replayed: its answers are those of the console'
 	@echo 'make test        prove every crate, try every must-fail edit, run all tests: the gate'
-	@echo 'make programs    prove and build target/bin/bench, the console, and target/bin/verdict'
+	@echo 'make programs    prove and build target/bin/: bench, the console; record and replay; verdict'
 	@echo 'make library     prove and build target/staticlib/libtockfeather.a, for include/tockfeather.h'
 	@echo 'make host        build the C bench host, target/host/host'
 	@echo 'make oracle      build the independent model below $(ORACLE)/'
 	@echo 'make outside     the tests outside the prover alone, on what is built'
-	@echo 'make fuzz        random scripts with fresh seeds against the independent model; SECONDS_TO_RUN=60'
+	@echo 'make fuzz        random scripts, traces and days with fresh seeds against the independent model; SECONDS_TO_RUN=60'
 	@echo 'make benchmark   checks and frames a second against a plain C model and an earlier commit (docs/PERFORMANCE.md)'
+	@echo 'make benchmark-traces   its part about traces alone: reading and writing against plain C, replay against direct calls'
 	@echo 'make clean       remove target/'
 
 day:
@@ -35,12 +37,17 @@ day:
 	@echo
 	@echo 'The picture of the day is target/day/day.svg, the console'"'"'s own output target/day/day.out.'
 
+replay:
+	@echo 'Proving and building the console and the programs; the first time this takes a few minutes.'
+	@tools/progress rt check bench record replay
+	@tools/recorded-day examples/recorded-day.txt target/replay
+
 # The gate. Its last line is the prover's own verdict, `N passed, 0 failed`; any failure before or after it fails the run.
 test:
 	@tests/gate
 
 programs:
-	@tools/progress rt check bench verdict
+	@tools/progress rt check bench verdict record replay
 
 library:
 	@tools/progress rt staticlib tockfeather
@@ -49,19 +56,31 @@ host: library
 	mkdir -p target/host
 	gcc $(WARNINGS) -Iinclude host/host.c target/staticlib/libtockfeather.a -o target/host/host
 
-oracle: library
-	cd oracle && cargo build --release --offline --quiet --features library
+# The trace functions for the independent model and the benchmark to call.
+trial:
+	@tools/progress rt staticlib trace_trial
+
+oracle: library trial
+	cd oracle && cargo build --release --offline --quiet --features library,trace-library
 
 # What is not proved is compared with programs that share no code with the model: two tests at a time, the longest first.
 outside: programs host oracle
 	@$(MAKE) --no-print-directory -j2 --output-sync=target $(OUTSIDE)
 
-OUTSIDE = outside-console outside-model outside-frames outside-histories outside-verdict outside-host outside-report outside-examples
+OUTSIDE = outside-console outside-trace outside-replay outside-model outside-frames outside-histories outside-verdict outside-host outside-report outside-examples outside-day
 .PHONY: $(OUTSIDE)
 
 outside-console:
 	@echo '== the console against the independent model'
 	$(ORACLE)/compare-console target/bin/bench
+
+outside-trace:
+	@echo '== reading, writing and replay of traces against the independent model'
+	$(ORACLE)/compare-trace
+
+outside-replay:
+	@echo '== the programs record and replay against the independent model'
+	$(ORACLE)/compare-replay target/bin/record target/bin/replay
 
 outside-model:
 	@echo '== the independent model by itself'
@@ -91,8 +110,14 @@ outside-examples:
 	@echo '== the examples of docs/CONSOLE.md'
 	python3 tests/examples.py target/bin/bench
 
+outside-day:
+	@echo '== a sample day, recorded and replayed'
+	@tools/recorded-day examples/recorded-day.txt target/replay
+
 fuzz: programs oracle
 	$(ORACLE)/fuzz target/bin/bench $(SECONDS_TO_RUN)
+	$(ORACLE)/compare-trace --seconds $(SECONDS_TO_RUN)
+	$(ORACLE)/compare-replay target/bin/record target/bin/replay --seconds $(SECONDS_TO_RUN)
 
 clean:
 	rm -rf target

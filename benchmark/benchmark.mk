@@ -3,11 +3,19 @@ BENCHMARK = target/benchmark
 # The commit whose proved code is measured beside this one's: the last with the check sequence bit by bit. Empty: none.
 BEFORE ?= 6ea528f
 
-.PHONY: benchmark
+.PHONY: benchmark benchmark-traces
 
 benchmark:
 	@tools/progress rt staticlib speed
 	@tools/progress rt staticlib burst_speed
 	@tools/progress rt staticlib tockfeather
+	@tools/progress rt staticlib trace_trial
 	benchmark/build $(BENCHMARK) '$(BEFORE)' $(WARNINGS)
 	$(BENCHMARK)/benchmark
+
+# What is about traces alone, without the earlier commit.
+benchmark-traces:
+	@tools/progress rt staticlib speed
+	@tools/progress rt staticlib trace_trial
+	benchmark/build-traces $(BENCHMARK) $(WARNINGS)
+	$(BENCHMARK)/traces

@@ -1,5 +1,4 @@
 #include <stdio.h>
-#include <stdlib.h>
 #include <string.h>
 
 #include "bursts.h"
@@ -78,20 +77,13 @@ static double burst_turn(bool in_one_call, size_t length)
     return BURSTS_A_TURN * PAIRS / spent;
 }
 
-static int by_size(const void *a, const void *b)
-{
-    double x = *(const double *)a, y = *(const double *)b;
-
-    return (x > y) - (x < y);
-}
-
 /* One line of the table; returns the burst's rate over that of single receives:
  * the median over pairs of turns, one right behind the other, in changing order.
  * Nearly all of both is the same check, so the best turn of each would only tell
  * which of them met the machine's best moment. */
 static double measure_burst(size_t length)
 {
-    double in_one_call = 0, singles = 0, ratios[BURST_TURNS];
+    double in_one_call = 0, singles = 0, ratio, ratios[BURST_TURNS];
 
     make_frame(length, 1);
     for (size_t k = 0; k < PAIRS; k++)
@@ -103,10 +95,9 @@ static double measure_burst(size_t length)
         keep_best(&in_one_call, one_call);
         keep_best(&singles, single);
     }
-    qsort(ratios, BURST_TURNS, sizeof ratios[0], by_size);
-    printf("%-8s %6zu %14.0f %14.0f %11.3f\n", "burst", length, in_one_call, singles,
-           ratios[BURST_TURNS / 2]);
-    return ratios[BURST_TURNS / 2];
+    ratio = median(ratios, BURST_TURNS);
+    printf("%-8s %6zu %14.0f %14.0f %11.3f\n", "burst", length, in_one_call, singles, ratio);
+    return ratio;
 }
 
 static const size_t burst_lengths[] = {64, 1518};

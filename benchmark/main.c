@@ -2,7 +2,8 @@
  * The benchmark: the check sequence alone, and frames a second through receive
  * and through single send, of the proved code, of the proved code of an earlier
  * commit and of the plain C model, side by side in one run; then frames a second
- * through bursts of 64 beside 64 single receives, both proved.
+ * through bursts of 64 beside 64 single receives, both proved; then the reading
+ * and writing of traces beside plain C, and replay beside direct calls.
  *
  * First all contestants get the same inputs, allowed and refused ones, and must
  * leave the same answers, memory and output: a model that does less would be no
@@ -17,7 +18,9 @@
 
 #include "bursts.h"
 #include "model.h"
+#include "replays.h"
 #include "setting.h"
+#include "traces.h"
 
 /* A turn handles about so many bytes: some milliseconds. */
 #define BYTES_A_TURN 1000000
@@ -286,6 +289,8 @@ int main(void)
     for (size_t i = 0; i < sizeof frames_out / sizeof frames_out[0]; i++)
         same = same_out(&frames_out[i]) && same;
     same = same_bursts() && same;
+    same = same_traces() && same;
+    same = same_replays() && same;
     if (!same)
         return 1;
     printf("all leave the same answers, memory and output\n\n");
@@ -294,5 +299,7 @@ int main(void)
     printf("\n");
     measure_calls();
     measure_bursts();
+    measure_traces();
+    measure_replays();
     return 0;
 }

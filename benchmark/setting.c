@@ -1,5 +1,6 @@
 #define _POSIX_C_SOURCE 199309L
 
+#include <stdlib.h>
 #include <string.h>
 #include <time.h>
 
@@ -59,4 +60,17 @@ void keep_best(double *best, double now)
 {
     if (now > *best)
         *best = now;
+}
+
+static int by_size(const void *a, const void *b)
+{
+    double x = *(const double *)a, y = *(const double *)b;
+
+    return (x > y) - (x < y);
+}
+
+double median(double *numbers, size_t count)
+{
+    qsort(numbers, count, sizeof numbers[0], by_size);
+    return numbers[count / 2];
 }

@@ -39,4 +39,7 @@ double seconds(void);
 
 void keep_best(double *best, double now);
 
+/* The middle one of an odd number of them; sorts them. */
+double median(double *numbers, size_t count);
+
 #endif

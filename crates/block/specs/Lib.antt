@@ -1,3 +1,4 @@
 pub mod Fields
 pub mod Faults
 pub mod Made
+pub mod Sums

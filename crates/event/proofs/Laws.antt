@@ -46,6 +46,16 @@ size-room s p n e h =
     let l = length-drop p s in
     omega arith
 
+-- the four bytes behind the first count for a frame alone
+pub not-a-frame : (first a b left : ℕ) → (first ≡ 3 → ⊥) → sizeBy first a left ≡ sizeBy first b left
+unfolding sizeBy
+not-a-frame first a b left h = rw (ne-eqb first 3 h)
+
+pub size-other-from : (s : List ℕ) (p first left n : ℕ) → first ≡ getD s p 0 → (first ≡ 3 → ⊥) → left ≡ length s - p → n ≡ sizeBy first 0 left
+    → n ≡ sizeOf (front (drop p s))
+size-other-from s p first left n a h c d =
+    size-from s p first (word s (p + 1)) left n a refl c (d ∙ not-a-frame first 0 (word s (p + 1)) left h)
+
 pub none-from : (s : List ℕ) (p : ℕ) → length s ≤ p → 0 ≡ sizeOf (front (drop p s))
 none-from s p h =
     let e : length (drop p s) ≡ 0 = length-drop p s ∙ omega arith in

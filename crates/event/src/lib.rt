@@ -92,11 +92,11 @@ pub fn size_at(list: &[u8], place: usize) -> usize
     if list.len() <= place {
         return 0;
     }
-    size(
-        memory::byte(list, place),
-        memory::word(list, place + 1),
-        list.len() - place,
-    )
+    let first = memory::byte(list, place);
+    if first == 3 {
+        return size(first, memory::word(list, place + 1), list.len() - place);
+    }
+    size(first, 0, list.len() - place)
 }
 
 // The events of a list, one behind the other.

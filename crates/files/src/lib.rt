@@ -32,16 +32,6 @@ pub fn read(path: &[u8], buffer: &mut [u8]) -> Got
     got
 }
 
-// Makes a file of these bytes, in the place of one that is there, and answers whether it could.
-pub fn make_one(path: &[u8], bytes: &[u8]) -> bool {
-    let mut name = [0u8; NAME];
-    let n = written(path, bytes, &mut name);
-    if n == 0 {
-        return false;
-    }
-    placing::place(named(&name, n), path)
-}
-
 // Makes two files, or none: 0 where both are made, 1 where the first cannot be, 2 where the second cannot be. Both are
 // written before either is put in its place. One name for both can hold one of them only.
 pub fn make_both(first: &[u8], a: &[u8], second: &[u8], b: &[u8]) -> u32

@@ -3,7 +3,7 @@
 ghost use Prim.Native.Nat.{_≤_};
 
 // Puts a file in its place, or removes it where it cannot stand there.
-pub(crate) fn place(from: &[u8], path: &[u8]) -> bool {
+fn place(from: &[u8], path: &[u8]) -> bool {
     if os::rename(from, path) == 0 {
         return true;
     }

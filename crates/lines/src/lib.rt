@@ -1,7 +1,8 @@
 // Standard input into lines. A line is gathered in a buffer, since it may come in several chunks; what is past the buffer's end
 // is not kept. A last part that no line feed follows is a line if it has a character.
 ghost use mathlib.Core.Path.{_≡_};
-ghost use Prim.Native.Nat.{_-_, _≤_};
+ghost use Prim.Native.Nat.{_-_, _^_, _≤_};
+ghost use mathlib.Core.Bool.{false};
 
 // What one read takes at most.
 pub const CHUNK: usize = 65536;
@@ -27,7 +28,9 @@ pub struct Input {
 }
 
 // Before the first read.
-pub fn begin() -> Input {
+pub fn begin() -> Input
+    ensures { λ r. ⌜ (r .from ≡ 0) × (r .to ≡ 0) × (r .kept ≡ 0) × (r .ended ≡ false) × (r .last ≡ 0) × (r .parts ≡ 2 ^ 64 - 1) ⌝ }
+{
     Input {
         from: 0,
         to: 0,

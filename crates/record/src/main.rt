@@ -1,4 +1,5 @@
 // Makes a recorded day of a console script: docs/TRACE.md, "record".
+mod messages;
 mod saving;
 
 use lines::Input;

@@ -1,4 +1,5 @@
 // A recorded day as its two files.
+use crate::messages;
 use recording::Day;
 
 // The greatest window.

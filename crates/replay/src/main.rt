@@ -13,11 +13,21 @@ const EVENTS: usize = 2_064_378;
 // The most bytes that are taken of the memory image.
 const MEMORY: usize = 98_312;
 
-// Reads the file that an argument names into the buffer, or says that it cannot be read.
-fn load(argument: usize, buffer: &mut [u8]) -> Got {
-    let mut name = [0u8; 4096];
-    let n = os::arg(argument, &mut name);
-    let path = memory::part(&name, 0, n);
+// No argument that the system hands to a program is longer.
+const NAME: usize = 131_072;
+
+// Puts an argument at the front of a buffer, and answers its length.
+fn argument(i: usize, name: &mut [u8; NAME]) -> usize {
+    os::arg(i, name)
+}
+
+// The name of so many characters.
+fn named(name: &[u8; NAME], n: usize) -> &[u8] {
+    memory::part(name, 0, n)
+}
+
+// Reads the file of this name into the buffer, or says that it cannot be read.
+fn read(path: &[u8], buffer: &mut [u8]) -> Got {
     let got = files::read(path, buffer);
     if !got.ok {
         io::write_all(STDOUT_FILENO, b"error ");
@@ -25,6 +35,13 @@ fn load(argument: usize, buffer: &mut [u8]) -> Got {
         io::write_all(STDOUT_FILENO, b"\n");
     }
     got
+}
+
+// The file that an argument names.
+fn load(i: usize, buffer: &mut [u8]) -> Got {
+    let mut name = [0u8; NAME];
+    let n = argument(i, &mut name);
+    read(named(&name, n), buffer)
 }
 
 // The trace and the memory image, each into a buffer of its own.

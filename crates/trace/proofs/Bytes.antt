@@ -16,18 +16,13 @@ use Rattle.event.proofs.Fronts.{by-bool}
 use Rattle.event.specs.Walk.{walk, counted, endingBy}
 use Rattle.event.specs.declared.Walked.{Walked}
 use Rattle.event.specs.declared.Ending.{Ending}
-use Rattle.event.proofs.Laws.{size-from, Walking, walking-begins, walking-room, walking-on, walking-ends}
+use Rattle.event.proofs.Laws.{not-a-frame, size-from, Walking, walking-begins, walking-room, walking-on, walking-ends}
 use Rattle.block.specs.Fields.{usedLength}
 use Rattle.stream.specs.Blocks.{blockAt, blockCount, Sound}
 use Rattle.stream.specs.Stream.{stream, eventsOf}
 use Rattle.stream.proofs.Sound.{right-at, length-last, byte-at}
 use Rattle.stream.proofs.Laws.{count-most}
 use Rattle.trace.specs.Scattered.{byteIn, wordIn, sizeIn}
-
--- the four bytes behind the first count for a frame alone
-other : (first a b left : ℕ) → (first ≡ 3 → ⊥) → sizeBy first a left ≡ sizeBy first b left
-unfolding sizeBy
-other first a b left h = rw (ne-eqb first 3 h)
 
 module _ (t : List ℕ) where
   pub byte-past : (p : ℕ) → length t ≤ p → 0 ≡ byteIn t p
@@ -59,7 +54,7 @@ module _ (t : List ℕ) where
 
     pub size-other : (first n : ℕ) → first ≡ byteIn t p → (first ≡ 3 → ⊥) → n ≡ sizeBy first 0 (end - p) → n ≡ sizeIn t end p
     unfolding sizeIn
-    size-other first n a h e = e ∙ other first 0 (wordIn t (p + 1)) (end - p) h ∙ rw a
+    size-other first n a h e = e ∙ not-a-frame first 0 (wordIn t (p + 1)) (end - p) h ∙ rw a
 
 -- ---- the events of sound blocks
 

@@ -54,7 +54,7 @@ fn put_rest(events: &[u8], blocks: usize, room: &mut [u8])
 }
 
 // Puts so many blocks, one behind the other.
-pub fn put_all(base: u32, window: u32, events: &[u8], blocks: usize, room: &mut [u8])
+pub(crate) fn put_all(base: u32, window: u32, events: &[u8], blocks: usize, room: &mut [u8])
     requires { ⌜ (1 ≤ window) × ((1 ≤ blocks) × (blocks ≤ 65536)) ⌝ }
     ensures { λ _. ⌜ now (room .exit) ≡ store (now (room .entry)) 0 (blocksOf 0 blocks (streamOf base window (now (events .entry)))) ⌝ }
 {

@@ -1,5 +1,5 @@
 use borrow.Author.Needs.{needs}
-use Rattle.event.proofs.Laws.{size-from, none-from}
+use Rattle.event.proofs.Laws.{size-from, size-other-from, none-from}
 use Rattle.event.proofs.size_at.Statement.{statement}
 use Rattle.event.proofs.size_at.Tie as tie
 
@@ -13,4 +13,7 @@ size-at-spec =
     (λ c κs. search needs)
     (λ c. search needs)
     (λ c κs. search needs)
-    (λ c. search size-from))
+    (λ c. search size-from)
+    (λ c. search needs)
+    (λ c κs. search needs)
+    (λ c. search size-other-from))

@@ -10,5 +10,5 @@ check-spec =
     tie.close
     (tie.spec
     (λ c κs. search needs)
-    (λ c κs. (omega arith, part-small (c .part .result .now) (c .before .before .args .block .now) 508 (c .part .ensures)))
+    (λ c κs. (omega arith, omega (arith, part-small (c .part .result .now) (c .before .before .args .block .now) 508 (c .part .ensures))))
     (λ c. check-is (c .before .before .before .args .block .now) (c .before .part .result .now) _ (c .before .part .ensures) (c .weigh .ensures .0)))

@@ -1,76 +1,33 @@
--- `block::sums::weigh` meets its contract. The loop's invariant: the sum of the bytes passed and that of the bytes left are the whole sum, and each
--- byte passed added at most 130,560, 255 times 512. Assumes nothing.
-use Prim.Native.Nat.{_+_, _*_, _≤_, _-_}
-use mathlib.Core.Path.{_≡_}
-use native.Mathlib.Nat.{zero-add}
+-- `block::sums::weigh` meets its contract. Assumes nothing.
+use Prim.Native.Nat.{_-_}
 use native.Mathlib.Omega.{arith}
-use lib.ListN.{length, drop, getD}
-use Rattle.block.specs.Fields.{weighted}
-use Rattle.block.proofs.Weights.{weigh-turn, weigh-end, term-small}
+use borrow.Author.Needs.{needs}
+use lib.ListN.{drop}
+use Rattle.block.proofs.Blocks.{part-small}
+use Rattle.block.proofs.Weights.{weigh-is}
 use Rattle.block.proofs.sums.weigh.Statement.{statement}
 use Rattle.block.proofs.sums.weigh.Tie as tie
-use Rattle.block.proofs.sums.weigh.Reads as reads
-use Rattle.block.proofs.sums.weigh.Lts as lts
 
-abbrev Inv-loop : tie.InvT-loop
-Inv-loop position bytes sum₀ weight₀ i₀ sum weight i =
-    (i ≤ length bytes) × ((weight ≡ position + i) × ((sum ≤ i * 130560) × (sum + weighted weight (drop i bytes) ≡ weighted position bytes)))
+total-requires : tie.Need-total-requires
+total-requires c κs =
+    let start = c .before .before .before in
+    part-small (c .part .result .now) (drop (255 - start .args .position) (start .args .bytes .now)) 508 (c .part .ensures)
 
-abbrev μ-loop : tie.MeasureT-loop
-μ-loop position bytes sum₀ weight₀ i₀ sum weight i = length bytes - i
-
-loop-holds : tie.Need-loop-holds Inv-loop μ-loop
-loop-holds c = (omega arith, (omega arith, (omega arith, zero-add _)))
-
-add-weight : tie.Need-add-weight Inv-loop μ-loop
-add-weight c = omega arith
-
-shared-slice-read-sum : tie.Need-shared-slice-read-sum Inv-loop μ-loop
-shared-slice-read-sum c = omega arith
-
--- what a byte adds
-small : (c : lts.After-shared-slice-known reads.Pre reads.Post Inv-loop μ-loop)
-    → getD (c .before .before .before .args .bytes .now) (c .before .before .loop .i) 0 * (c .before .before .loop .weight + 1) ≤ 130560
-small c = term-small _ _ (omega (arith, c .shared-slice-known .given (c .before .before .loop .i))) (omega arith)
-
-cast-sum : tie.Need-cast-sum Inv-loop μ-loop
-cast-sum c = omega (arith, c .shared-slice-known .given (c .before .before .loop .i))
-
-mul-sum : tie.Need-mul-sum Inv-loop μ-loop
-mul-sum c = omega (arith, small c)
-
-add-sum : tie.Need-add-sum Inv-loop μ-loop
-add-sum c = omega (arith, small c)
-
-add-i : tie.Need-add-i Inv-loop μ-loop
-add-i c = omega arith
-
-loop-less : tie.Need-loop-less Inv-loop μ-loop
-loop-less c = omega arith
-
-loop-again : tie.Need-loop-again Inv-loop μ-loop
-loop-again c =
-    let l = c .before .before .loop in
-    (omega arith, (omega arith, (omega (arith, small c), weigh-turn (c .before .before .before .args .bytes .now) (l .weight) (l .i) (l .sum) _ (omega arith) (l .inv .1 .1 .1))))
-
-returns : tie.Need-returns Inv-loop μ-loop
+returns : tie.Need-returns
 returns c =
-    let l = c .before .loop in
-    (weigh-end (c .before .before .args .bytes .now) (l .weight) (l .i) (l .sum) _ (omega arith) (l .inv .1 .1 .1), omega arith)
+    let part = c .before in
+    let low = part .before in
+    let start = low .before .before in
+    (weigh-is _ (start .args .bytes .now) (part .part .result .now) _ _ (start .pre .1) (part .part .ensures) (low .low .ensures .0) (c .total .ensures .0), omega arith)
 
 pub weigh-spec : {M : Type 1} → statement M
 weigh-spec =
     tie.close
     (tie.spec
-    Inv-loop
-    μ-loop
-    loop-holds
-    add-weight
-    shared-slice-read-sum
-    cast-sum
-    mul-sum
-    add-sum
-    add-i
-    loop-less
-    loop-again
+    (λ c κs. search needs)
+    (λ c. search needs)
+    (λ c κs. search needs)
+    total-requires
+    (λ c. search needs)
+    (λ c. search needs)
     returns)

@@ -1,0 +1,3 @@
+pub mod ReadingProof
+pub mod ReplayProof
+pub mod WritingProof
