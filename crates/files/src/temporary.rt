@@ -73,9 +73,24 @@ fn made(name: &[u8], path: &[u8], other: &[u8]) -> i32 {
     os::create(name)
 }
 
-// A file of these bytes under a new name beside another's, one of two that are asked for; it is put at the front of `name`. Answers the name's length, and
-// 0 where it cannot be written; then there is none.
+// Whether a file may take the place of what has this name. A device, a pipe or a terminal stays: it does not go to a place
+// that it is sent to, as a file does. What cannot be opened, as where there is nothing, is left to the rename.
+fn is_replaceable(path: &[u8]) -> bool {
+    let fd = os::open_update(path);
+    if fd < 0 {
+        return true;
+    }
+    let place = libc::lseek(fd, 1, libc::SEEK_SET);
+    libc::close(fd);
+    place == 1
+}
+
+// A file of these bytes under a new name beside another's, one of two that are asked for, put at the front of `name`. Answers the
+// name's length, and 0 where it cannot be written; then there is none.
 pub(crate) fn written(path: &[u8], other: &[u8], bytes: &[u8], name: &mut [u8; NAME]) -> usize {
+    if !is_replaceable(path) {
+        return 0;
+    }
     let mut i = 0;
     while i < TRIES {
         let n = beside(path, i, name);

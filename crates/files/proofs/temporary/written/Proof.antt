@@ -10,6 +10,12 @@ Inv-loop path other bytes name₀ i₀ name i = i ≤ 110
 abbrev μ-loop : tie.MeasureT-loop
 μ-loop path other bytes name₀ i₀ name i = 110 - i
 
+is-replaceable-requires : tie.Need-is-replaceable-requires Inv-loop μ-loop
+is-replaceable-requires c κs = search needs
+
+returns : tie.Need-returns Inv-loop μ-loop
+returns c = search needs
+
 loop-holds : tie.Need-loop-holds Inv-loop μ-loop
 loop-holds c = search needs
 
@@ -25,8 +31,8 @@ made-requires c κs = search needs
 filled-requires : tie.Need-filled-requires Inv-loop μ-loop
 filled-requires c κs = search needs
 
-returns : tie.Need-returns Inv-loop μ-loop
-returns c = search needs
+returns-2 : tie.Need-returns-2 Inv-loop μ-loop
+returns-2 c = search needs
 
 named-requires-2 : tie.Need-named-requires-2 Inv-loop μ-loop
 named-requires-2 c κs = search needs
@@ -34,8 +40,8 @@ named-requires-2 c κs = search needs
 unlink-requires : tie.Need-unlink-requires Inv-loop μ-loop
 unlink-requires c κs = search needs
 
-returns-2 : tie.Need-returns-2 Inv-loop μ-loop
-returns-2 c = search needs
+returns-3 : tie.Need-returns-3 Inv-loop μ-loop
+returns-3 c = search needs
 
 add-i : tie.Need-add-i Inv-loop μ-loop
 add-i c = search needs
@@ -46,8 +52,8 @@ loop-less c = search needs
 loop-again : tie.Need-loop-again Inv-loop μ-loop
 loop-again c = search needs
 
-returns-3 : tie.Need-returns-3 Inv-loop μ-loop
-returns-3 c = search needs
+returns-4 : tie.Need-returns-4 Inv-loop μ-loop
+returns-4 c = search needs
 
 pub written-spec : {M : Type 1} → statement M
 written-spec =
@@ -55,16 +61,18 @@ written-spec =
     (tie.spec
     Inv-loop
     μ-loop
+    is-replaceable-requires
+    returns
     loop-holds
     beside-requires
     named-requires
     made-requires
     filled-requires
-    returns
+    returns-2
     named-requires-2
     unlink-requires
-    returns-2
+    returns-3
     add-i
     loop-less
     loop-again
-    returns-3)
+    returns-4)
