@@ -12,7 +12,7 @@ export TMPDIR := $(shell tools/scratch)
 # Scripts leave no compiled files beside them.
 export PYTHONDONTWRITEBYTECODE = 1
 
-.PHONY: help day replay test programs library host oracle outside fuzz clean
+.PHONY: help day replay test programs library host trial oracle outside fuzz clean
 
 help:
 	@echo 'make day         a sample bench day: report on standard output, picture in target/day/day.svg'
