@@ -67,7 +67,7 @@ oracle: library trial
 outside: programs host oracle
 	@$(MAKE) --no-print-directory -j2 --output-sync=target $(OUTSIDE)
 
-OUTSIDE = outside-console outside-trace outside-replay outside-model outside-frames outside-histories outside-verdict outside-host outside-report outside-examples outside-day
+OUTSIDE = outside-console outside-trace outside-replay outside-model outside-frames outside-histories outside-verdict outside-host outside-report outside-examples outside-block outside-day
 .PHONY: $(OUTSIDE)
 
 outside-console:
@@ -109,6 +109,10 @@ outside-report:
 outside-examples:
 	@echo '== the examples of docs/CONSOLE.md'
 	python3 tests/examples.py target/bin/bench
+
+outside-block:
+	@echo '== the worked block of docs/TRACE.md'
+	python3 tests/trace.py target/bin/record target/bin/replay
 
 outside-day:
 	@echo '== a sample day, recorded and replayed'

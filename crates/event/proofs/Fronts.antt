@@ -1,22 +1,18 @@
 -- What stands at the front of a string, told by its first byte, the four bytes behind it and its length. Assumes nothing.
-use Prim.Native.Nat.{ℕ, suc, _+_, _≤_, _<_}
-use mathlib.Core.Path.{_≡_, refl, sym, _∙_}
-use mathlib.Core.Bool.{Bool, true, false, _&&_}
+use Prim.Native.Nat.{ℕ, _+_, _≤_, _<_}
+use mathlib.Core.Path.{_≡_, refl}
+use mathlib.Core.Bool.{true, false}
 use mathlib.Core.List.{List}
 use native.Mathlib.Omega.{arith}
-use lib.Dec.{eqb, ltb, leb}
+use lib.Dec.{eqb, ltb}
 use lib.ListN.{length, getD, take, drop, length-take, length-drop}
-use borrow.Author.Tests.{eq-eqb, ne-eqb, eqb-true, eqb-false, le-leb, lt-leb, lt-ltb, le-ltb, ltb-true, ltb-false}
+use borrow.Author.Tests.{eq-eqb, ne-eqb, eqb-true, eqb-false, le-leb, lt-leb, ltb-false}
 use Rattle.rules.specs.Choice.{if_then_else_}
-use Rattle.rules.proofs.Choices.{by-test}
+use Rattle.rules.proofs.Choices.{by-bool, by-test}
 use Rattle.memory.specs.Memory.{word}
 use Rattle.event.specs.Event.{Event, registerWrite, grant, frame, send, size}
-use Rattle.event.specs.Front.{Front, whole, cut, noEvent, wholeOr, frameFront, front, found}
-use Rattle.event.specs.Sizes.{sizeOf, begins, within, sizeBy, noneBy}
-
-pub by-bool : {C : Type 0} (t : Bool) → (t ≡ true → C) → (t ≡ false → C) → C
-by-bool true f g = f refl
-by-bool false f g = g refl
+use Rattle.event.specs.Front.{Front, whole, cut, noEvent, wholeOr, frameFront, front}
+use Rattle.event.specs.Sizes.{sizeOf, begins, within, sizeBy}
 
 -- the size of a whole event or none
 within-is : (n : ℕ) (s : List ℕ) (e : Event) → size e ≡ n → within (length s) n ≡ sizeOf (wholeOr n s e)

@@ -6,19 +6,20 @@ use mathlib.Core.List.{List}
 use native.Mathlib.Omega.{arith}
 use native.Mathlib.Nat.{add-zero, zero-add}
 use lib.Dec.{eqb}
-use lib.ListN.{length, getD, take, drop, length-drop, drop-of-length-le}
+use lib.ListN.{length, getD, drop, length-drop}
 use lib.Seq.{getD-drop, drop-drop}
 use borrow.Author.Tests.{eq-eqb, ne-eqb, eqb-true, eqb-false}
 use Rattle.rules.specs.Choice.{if_then_else_}
 use Rattle.memory.specs.Memory.{word}
-use Rattle.event.specs.Event.{Event, registerWrite, grant, frame, send, size}
-use Rattle.event.specs.Front.{Front, whole, cut, noEvent, front, found}
+use Rattle.event.specs.Event.{size}
+use Rattle.event.specs.Front.{Front, whole, cut, noEvent, front}
 use Rattle.event.specs.Sizes.{sizeOf, begins, sizeBy}
-use Rattle.event.specs.Walk.{Walk, ended, before, behind, walks, walk, counted, endingBy}
+use Rattle.event.specs.Walk.{Walk, before, behind, walks, walk, counted, endingBy}
 use Rattle.event.specs.declared.Walked.{Walked}
 use Rattle.event.specs.declared.Ending.{Ending}
-use Rattle.event.specs.declared.Ending.the-variants.{Whole, Cut, NoEvent}
-use Rattle.event.proofs.Fronts.{by-bool, front-of-none, front-part, partOf, size-is, size-fits}
+use Rattle.event.specs.declared.Ending.the-variants.{Cut, NoEvent}
+use Rattle.rules.proofs.Choices.{by-bool}
+use Rattle.event.proofs.Fronts.{front-of-none, front-part, partOf, size-is, size-fits}
 
 -- ---- a list from a place on
 

@@ -8,7 +8,7 @@ use native.Mathlib.Omega.{arith}
 use lib.ListN.{length, getD, take, drop, length-take, length-drop}
 use Rattle.rules.specs.Choice.{if_then_else_}
 use Rattle.memory.specs.Memory.{word}
-use Rattle.event.specs.Front.{Front, cut, noEvent, front, found}
+use Rattle.event.specs.Front.{cut, noEvent, front, found}
 use Rattle.event.specs.Sizes.{sizeOf, begins, sizeBy, noneBy}
 use Rattle.event.specs.declared.Found.{Found}
 use Rattle.event.specs.declared.Found.the-variants.{RegisterWrite, Grant, Frame, Send, Cut, NoEvent}

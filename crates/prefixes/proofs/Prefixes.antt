@@ -6,11 +6,10 @@ use mathlib.Core.Bool.{Bool, true, false, not, _&&_}
 use mathlib.Core.List.{List, [], _∷_}
 use mathlib.Core.Logic.{_⊎_, inl, inr, ⊎-elim}
 use native.Mathlib.Omega.{arith}
-use lib.Dec.{eqb, ltb, leb}
-use lib.ListN.{length, getD, take, drop, length-take, length-drop, drop-of-length-le}
+use lib.Dec.{eqb, ltb}
+use lib.ListN.{length, getD, take, drop, length-take, length-drop}
 use lib.Seq.{getD-take, take-nil}
-use borrow.Author.Tests.{eq-eqb, ne-eqb, eqb-true, eqb-false, lt-ltb, le-ltb, ltb-true, ltb-false, le-leb, leb-true}
-use Rattle.rules.specs.Choice.{if_then_else_}
+use borrow.Author.Tests.{eq-eqb, ne-eqb, eqb-true, eqb-false, lt-ltb, le-ltb, ltb-true, ltb-false}
 use Rattle.memory.specs.Memory.{word}
 use Rattle.event.specs.Front.{front}
 use Rattle.event.specs.Sizes.{sizeOf, begins, within, sizeBy}
@@ -18,8 +17,9 @@ use Rattle.event.specs.Walk.{walks, walk, counted, endingBy}
 use Rattle.event.specs.declared.Walked.{Walked}
 use Rattle.event.specs.declared.Ending.{Ending}
 use Rattle.event.specs.declared.Ending.the-variants.{Whole, Cut, NoEvent}
-use Rattle.event.proofs.Fronts.{by-bool, size-is, size-fits, begins-yes}
-use Rattle.event.proofs.Laws.{ahead, turn, stopped, stop}
+use Rattle.rules.proofs.Choices.{by-bool}
+use Rattle.event.proofs.Fronts.{size-is, size-fits, begins-yes}
+use Rattle.event.proofs.Laws.{turn, stop}
 
 -- ---- the size of an event, by how many bytes it wants
 

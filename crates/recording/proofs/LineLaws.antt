@@ -17,7 +17,7 @@ use Rattle.recording.specs.declared.Day.{Day}
 use Rattle.recording.specs.declared.steps.Step.{Step}
 use Rattle.recording.specs.declared.steps.Step.the-variants.{New, Poke, Write, Grant, Frame, Send, Other}
 use Rattle.recording.specs.Day.{counted, failed, new}
-use Rattle.recording.specs.Bytes.{Poked, Listed, poked, listed, poke, append, sendInto}
+use Rattle.recording.specs.Bytes.{poked, listed, poke, append, sendInto}
 use Rattle.recording.specs.Recording.{Recorded, recorded, withImage, withList, stepOf, first, later, called, take}
 
 -- an empty line says nothing, and of another the first character tells

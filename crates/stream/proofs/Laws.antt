@@ -1,7 +1,6 @@
 -- The ways out of this crate's functions, and the turns of their loops, as laws of the definitions. Assumes nothing.
 use Prim.Native.Nat.{ℕ, zero, suc, _+_, _*_, _/_, _%_, _-_, _≤_, _<_}
 use mathlib.Core.Path.{_≡_, refl, sym, ap, _∙_}
-use mathlib.Core.Bool.{Bool, true, false}
 use mathlib.Core.List.{List, [], _∷_, _++_}
 use native.Mathlib.Omega.{arith}
 use native.Mathlib.Numerals.{add-one}
@@ -9,7 +8,6 @@ use lib.Dec.{eqb}
 use lib.ListN.{length, take, drop, length-take, length-drop, length-append, drop-of-length-le}
 use lib.Seq.{take-all}
 use borrow.Author.Tests.{eq-eqb, ne-eqb, eqb-true, eqb-false}
-use Rattle.rules.specs.Choice.{if_then_else_}
 use Rattle.memory.specs.Memory.{store}
 use Rattle.memory.proofs.Stores.{length-store, store-append}
 use Rattle.block.specs.Fields.{usedLength, dataOf, usedData}
@@ -17,7 +15,7 @@ use Rattle.block.specs.Faults.{blockFault}
 use Rattle.stream.specs.declared.Fault.{Fault}
 use Rattle.stream.specs.Blocks.{blockAt, blockCount, isLast, faultAt, firstFault}
 use Rattle.stream.specs.Stream.{stream, eventsOf, eventBytes}
-use Rattle.stream.proofs.Sound.{by-bool}
+use Rattle.rules.proofs.Choices.{by-bool}
 
 -- ---- how many blocks
 

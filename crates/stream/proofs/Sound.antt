@@ -1,23 +1,18 @@
 -- Blocks without a fault of their own: how long their used data is, and where each byte of it lies in the trace. Assumes nothing.
 use Prim.Native.Nat.{ℕ, zero, suc, _+_, _*_, _/_, _%_, _-_, _≤_, _<_}
 use mathlib.Core.Path.{_≡_, refl, sym, ap, _∙_}
-use mathlib.Core.Bool.{Bool, true, false, not, _&&_, _||_}
-use mathlib.Core.List.{List, [], _++_}
+use mathlib.Core.Bool.{Bool, false, not, _&&_, _||_}
+use mathlib.Core.List.{List, _++_}
 use native.Mathlib.Omega.{arith}
 use lib.Dec.{eqb, ltb}
 use lib.ListN.{length, getD, take, drop, length-append, length-take, length-drop, List·getD-append}
 use lib.Seq.{take-all, take-append-le, getD-take, getD-drop, getD-append-add}
 use borrow.Author.Tests.{eqb-true, eqb-false, ne-eqb, ltb-true, ltb-false}
-use Rattle.rules.specs.Choice.{if_then_else_}
-use Rattle.rules.proofs.Choices.{or-parts}
+use Rattle.rules.proofs.Choices.{by-bool, or-parts}
 use Rattle.block.specs.Fields.{blockNumber, usedLength, dataOf, usedData, storedCheck, checkOf}
 use Rattle.block.specs.Faults.{usedFault, blockFault}
 use Rattle.stream.specs.Blocks.{blockAt, blockCount, isLast, faultAt, Sound}
 use Rattle.stream.specs.Stream.{stream}
-
-pub by-bool : {C : Type 0} (t : Bool) → (t ≡ true → C) → (t ≡ false → C) → C
-by-bool true f g = f refl
-by-bool false f g = g refl
 
 -- ---- a block by itself
 

@@ -5,7 +5,7 @@ ghost use mathlib.Core.Path.{_≡_};
 ghost use lib.ListN.{length, drop};
 ghost use Rattle.memory.specs.Memory.{store};
 ghost use Rattle.block.specs.Fields.{usedData};
-ghost use Rattle.stream.specs.Blocks.{blockAt, blockCount, isLast, faultAt, firstFault};
+ghost use Rattle.stream.specs.Blocks.{blockAt, blockCount, faultAt, firstFault};
 ghost use Rattle.stream.specs.Stream.{eventBytes};
 
 // A block that is wrong by itself, and its number; or, with 0, the place behind the blocks that were tested.

@@ -1,18 +1,16 @@
 -- The used data where it lies in the trace: the ways out of the code that looks at it there. Assumes nothing.
 use Prim.Native.Nat.{ℕ, suc, _+_, _*_, _-_, _/_, _%_, _≤_, _<_}
-use mathlib.Core.Path.{_≡_, refl, sym, ap, _∙_}
-use mathlib.Core.Bool.{Bool, true, false}
+use mathlib.Core.Path.{_≡_, refl, sym, _∙_}
 use mathlib.Core.List.{List, [], _∷_}
 use native.Mathlib.Omega.{arith}
 use lib.Dec.{eqb, ltb}
-use lib.ListN.{length, getD, take, drop, length-drop, List·getD-eq-default}
+use lib.ListN.{length, getD, drop, length-drop, List·getD-eq-default}
 use lib.Seq.{getD-drop, drop-drop}
-use borrow.Author.Tests.{eq-eqb, ne-eqb, lt-ltb, le-ltb, ltb-true, ltb-false, eqb-false}
-use Rattle.rules.specs.Choice.{if_then_else_}
-use Rattle.memory.specs.Memory.{wordOf, word}
+use borrow.Author.Tests.{lt-ltb, ltb-true, ltb-false, eqb-false}
+use Rattle.memory.specs.Memory.{word}
 use Rattle.event.specs.Front.{front}
-use Rattle.event.specs.Sizes.{sizeOf, within, sizeBy}
-use Rattle.event.proofs.Fronts.{by-bool}
+use Rattle.event.specs.Sizes.{sizeOf, sizeBy}
+use Rattle.rules.proofs.Choices.{by-bool}
 use Rattle.event.specs.Walk.{walk, counted, endingBy}
 use Rattle.event.specs.declared.Walked.{Walked}
 use Rattle.event.specs.declared.Ending.{Ending}

@@ -1,26 +1,24 @@
 -- The first bad block, found in two passes: first the faults of the blocks by themselves, then one walk along the events of those
 -- before the first such fault. Assumes nothing.
-use Prim.Native.Nat.{ℕ, zero, suc, _+_, _*_, _/_, _%_, _-_, _≤_, _<_}
-use mathlib.Core.Path.{_≡_, refl, sym, ap, subst, _∙_}
-use mathlib.Core.Bool.{Bool, true, false, not, _&&_, _||_, false≢true}
-use mathlib.Core.List.{List, [], _++_}
+use Prim.Native.Nat.{ℕ, zero, suc, _+_, _*_, _/_, _-_, _≤_, _<_}
+use mathlib.Core.Path.{_≡_, refl, sym, _∙_}
+use mathlib.Core.Bool.{Bool, true, false, _&&_, _||_, false≢true}
+use mathlib.Core.List.{List}
 use native.Mathlib.Omega.{arith}
 use native.Mathlib.Numerals.{add-one}
 use lib.Dec.{eqb, ltb}
-use lib.ListN.{length, getD, take, drop, length-append, length-take, length-drop}
-use lib.Seq.{take-all, getD-take}
+use lib.ListN.{length, take, drop, length-take, length-drop}
+use lib.Seq.{getD-take}
 use borrow.Author.Tests.{eqb-true, eqb-false, eq-eqb, ne-eqb, ltb-true, ltb-false, lt-ltb, le-ltb}
-use Rattle.rules.specs.Choice.{if_then_else_, _otherwise_}
+use Rattle.rules.specs.Choice.{if_then_else_}
 use Rattle.memory.specs.Memory.{word}
-use Rattle.window.specs.Window.{windowAllowed}
 use Rattle.block.specs.Fields.{half}
-use Rattle.event.specs.Walk.{Walk, walk, counted}
+use Rattle.event.specs.Walk.{walk, counted}
 use Rattle.event.specs.declared.Ending.{Ending}
 use Rattle.event.specs.declared.Ending.the-variants.{Whole, Cut, NoEvent}
-use Rattle.event.proofs.Fronts.{by-bool}
+use Rattle.rules.proofs.Choices.{by-bool}
 use Rattle.prefixes.proofs.Prefixes.{stray, drop-take, cut-short}
-use Rattle.stream.specs.declared.Fault.{Fault}
-use Rattle.stream.specs.Blocks.{blockCount, isLast, faultAt, firstFault, Sound}
+use Rattle.stream.specs.Blocks.{blockCount, isLast, faultAt, Sound}
 use Rattle.stream.specs.Stream.{stream, baseOf, windowOf, eventsOf}
 use Rattle.stream.proofs.Sound.{not-last, length-within, front-of}
 use Rattle.trace.specs.Passes.{verdict}

@@ -1,15 +1,14 @@
 -- What a trace says, by the ways out of the code. Assumes nothing.
-use Prim.Native.Nat.{ℕ, zero, suc, _+_, _*_, _-_, _/_, _%_, _^_, _≤_, _<_}
+use Prim.Native.Nat.{ℕ, zero, suc, _+_, _-_, _/_, _%_, _^_, _≤_, _<_}
 use mathlib.Core.Path.{_≡_, refl, sym, ap, _∙_}
-use mathlib.Core.Bool.{Bool, true, false, not, _&&_, _||_}
+use mathlib.Core.Bool.{Bool, true, false, not, _&&_}
 use mathlib.Core.List.{List}
 use native.Mathlib.Omega.{arith}
 use lib.Dec.{eqb, ltb}
-use lib.ListN.{length, getD, take, drop, length-drop}
+use lib.ListN.{length, getD, length-drop}
 use lib.Seq.{take-length}
 use borrow.Author.Tests.{eqb-true, eqb-false, eq-eqb, ne-eqb, ltb-true, ltb-false, lt-ltb, le-ltb}
-use Rattle.rules.specs.Choice.{if_then_else_, _otherwise_}
-use Rattle.rules.proofs.Choices.{or-parts}
+use Rattle.rules.proofs.Choices.{by-bool, or-parts}
 use Rattle.memory.specs.Memory.{word, store}
 use Rattle.window.specs.Window.{windowAllowed}
 use Rattle.block.specs.Fields.{half}
@@ -17,7 +16,6 @@ use Rattle.event.specs.Walk.{walk, counted}
 use Rattle.event.specs.declared.Walked.{Walked}
 use Rattle.event.specs.declared.Ending.{Ending}
 use Rattle.event.specs.declared.Ending.the-variants.{Whole, Cut, NoEvent}
-use Rattle.event.proofs.Fronts.{by-bool}
 use Rattle.event.proofs.Laws.{place-fits}
 use Rattle.prefixes.proofs.Prefixes.{stray, cut-short}
 use Rattle.stream.specs.declared.Fault.{Fault}
@@ -28,7 +26,7 @@ use Rattle.stream.proofs.Laws.{count-least, count-most}
 use Rattle.trace.specs.declared.Found.{Found}
 use Rattle.trace.specs.Judge.{headerFault, firstBad}
 use Rattle.trace.specs.Passes.{verdict, eventsFault}
-use Rattle.trace.specs.Reading.{refused, given, look, readingOf, read}
+use Rattle.trace.specs.Reading.{refused, look, readingOf, read}
 use Rattle.trace.proofs.Judged.{bad-first, bad-header, bad-byte, bad-block, bad-end, all-good}
 
 -- ---- the first pass

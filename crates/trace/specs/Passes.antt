@@ -3,7 +3,6 @@
 use Prim.Native.Nat.{ℕ, _+_, _-_, _/_}
 use lib.Dec.{eqb}
 use Rattle.rules.specs.Choice.{if_then_else_}
-use Rattle.event.specs.declared.Walked.{Walked}
 use Rattle.event.specs.declared.Ending.{Ending}
 use Rattle.event.specs.declared.Ending.the-variants.{Whole, Cut, NoEvent}
 use Rattle.stream.specs.declared.Fault.{Fault}

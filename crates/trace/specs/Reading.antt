@@ -1,13 +1,12 @@
 -- 02, Wish 4: "Reading gives the window and events or the first bad block with its reason .. or last refuses too little room."
 -- Each refusal "changes nothing". Assumes nothing.
-use Prim.Native.Nat.{ℕ, zero, suc}
+use Prim.Native.Nat.{ℕ}
 use mathlib.Core.List.{List}
 use lib.Dec.{eqb, ltb}
 use lib.ListN.{length}
 use Rattle.rules.specs.Choice.{if_then_else_}
 use Rattle.memory.specs.Memory.{store}
 use Rattle.event.specs.Walk.{walk}
-use Rattle.stream.specs.declared.Fault.{Fault}
 use Rattle.stream.specs.Blocks.{blockCount}
 use Rattle.stream.specs.Stream.{stream, baseOf, windowOf, eventBytes}
 use Rattle.trace.specs.declared.Found.{Found}

@@ -1,24 +1,48 @@
 -- What a trace says, by the search for its first bad block. Assumes nothing.
 use Prim.Native.Nat.{ℕ, zero, suc, _+_, _≤_, _<_}
-use mathlib.Core.Path.{_≡_, refl, sym, _∙_}
-use mathlib.Core.Bool.{Bool, true, false, not, _||_, _&&_}
+use mathlib.Core.Path.{_≡_, refl}
+use mathlib.Core.Bool.{Bool}
 use mathlib.Core.Logic.{_⊎_, inl, inr, ⊎-elim}
 use mathlib.Core.List.{List}
 use native.Mathlib.Omega.{arith}
 use lib.Dec.{eqb, ltb}
 use lib.ListN.{length}
 use borrow.Author.Tests.{eqb-true, eqb-false, ltb-true, ltb-false}
-use Rattle.rules.specs.Choice.{if_then_else_, _otherwise_}
 use Rattle.block.specs.Fields.{blockNumber, usedLength, unusedData, storedCheck, checkOf}
 use Rattle.block.specs.Faults.{usedFault, allZero, blockFault}
-use Rattle.event.proofs.Fronts.{by-bool}
+use Rattle.rules.proofs.Choices.{by-bool}
 use Rattle.stream.specs.declared.Fault.{Fault}
 use Rattle.stream.specs.Blocks.{blockAt, blockCount, isLast, faultAt}
 use Rattle.stream.specs.Stream.{stream, eventBytes}
 use Rattle.trace.specs.Judge.{eventFault, reason, judge, firstBad}
 use Rattle.trace.specs.Passes.{verdict}
-use Rattle.trace.specs.Reading.{refused, given, look, read}
-use Rattle.trace_refusals.specs.Reading.{Good, FirstBad, Exactly, ChangesNothing}
+use Rattle.trace.specs.Reading.{look, read}
+use Rattle.trace_refusals.specs.Reading.{ReasonsExactly, Good, FirstBad, Exactly, ChangesNothing}
+
+-- ---- why a block is bad
+
+pub reasons-exactly : ReasonsExactly
+unfolding reason faultAt blockFault
+reasons-exactly t k =
+    by-bool (eqb (length (blockAt t k)) 512)
+    (λ l.
+    let long = eqb-true (length (blockAt t k)) 512 l in
+    by-bool (eqb (blockNumber (blockAt t k)) k)
+    (λ n.
+    let number = eqb-true (blockNumber (blockAt t k)) k n in
+    by-bool (eqb (storedCheck (blockAt t k)) (checkOf (blockAt t k)))
+    (λ c.
+    let check = eqb-true (storedCheck (blockAt t k)) (checkOf (blockAt t k)) c in
+    by-bool (usedFault (isLast t k) (usedLength (blockAt t k))) (λ u. inr (inr (inr (inl (long, number, check, u, rw (l, n, c, u))))))
+    (λ u.
+    by-bool (allZero (unusedData (blockAt t k)))
+    (λ z.
+    by-bool (eventFault (isLast t k) (stream t (k + 1))) (λ e. inr (inr (inr (inr (inr (inl (long, number, check, u, z, e, rw (l, n, c, u, z, e))))))))
+    (λ e. inr (inr (inr (inr (inr (inr (long, number, check, u, z, e, rw (l, n, c, u, z, e)))))))))
+    (λ z. inr (inr (inr (inr (inl (long, number, check, u, z, rw (l, n, c, u, z)))))))))
+    (λ c. inr (inr (inl (long, number, eqb-false (storedCheck (blockAt t k)) (checkOf (blockAt t k)) c, rw (l, n, c))))))
+    (λ n. inr (inl (long, eqb-false (blockNumber (blockAt t k)) k n, rw (l, n)))))
+    (λ l. inl (eqb-false (length (blockAt t k)) 512 l, rw l))
 
 -- ---- a reason is one of 17 to 22
 

@@ -1,15 +1,12 @@
 -- The number of replay, test by test. Assumes nothing.
-use mathlib.Core.Path.{_≡_, refl}
-use mathlib.Core.Bool.{Bool, true, false}
 use mathlib.Core.Logic.{inl, inr}
-use mathlib.Core.List.{List}
 use lib.Dec.{eqb, ltb}
 use lib.ListN.{length}
 use borrow.Author.Tests.{eqb-true, eqb-false, ltb-true, ltb-false}
-use Rattle.event.proofs.Fronts.{by-bool}
+use Rattle.rules.proofs.Choices.{by-bool}
 use Rattle.trace.specs.Reading.{look}
 use Rattle.replaying.specs.Replay.{replayNumber, replay}
-use Rattle.trace_refusals.specs.Replay.{Exactly, Kept, ChangesNothing}
+use Rattle.trace_refusals.specs.Replay.{Exactly, ChangesNothing}
 
 pub replay-exactly : Exactly
 unfolding replayNumber

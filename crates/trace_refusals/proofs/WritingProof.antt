@@ -1,13 +1,10 @@
 -- The number of writing, test by test. Assumes nothing.
-use Prim.Native.Nat.{ℕ, _*_}
-use mathlib.Core.Path.{_≡_, refl}
-use mathlib.Core.Bool.{Bool, true, false}
+use Prim.Native.Nat.{_*_}
 use mathlib.Core.Logic.{inl, inr}
-use mathlib.Core.List.{List}
 use lib.Dec.{eqb, ltb}
 use lib.ListN.{length}
-use borrow.Author.Tests.{eqb-true, ltb-true, ltb-false}
-use Rattle.event.proofs.Fronts.{by-bool}
+use borrow.Author.Tests.{ltb-true, ltb-false}
+use Rattle.rules.proofs.Choices.{by-bool}
 use Rattle.window.specs.Window.{windowAllowed}
 use Rattle.event.specs.Walk.{walk}
 use Rattle.trace_writing.specs.Writing.{isWhole, needed, writeNumber, write}

@@ -3,7 +3,6 @@ use Prim.Native.Nat.{ℕ, _≤_, _<_}
 use mathlib.Core.Path.{_≡_}
 use mathlib.Core.Logic.{_⊎_}
 use mathlib.Core.List.{List}
-use lib.ListN.{length}
 use Rattle.trace.specs.Reading.{look}
 use Rattle.enet.specs.Device.{reset}
 use Rattle.replaying.specs.Replay.{replayNumber, replay}

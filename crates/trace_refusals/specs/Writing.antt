@@ -5,7 +5,6 @@ use mathlib.Core.Path.{_≡_}
 use mathlib.Core.Bool.{true, false}
 use mathlib.Core.Logic.{_⊎_}
 use mathlib.Core.List.{List}
-use lib.ListN.{length}
 use Rattle.window.specs.Window.{windowAllowed}
 use Rattle.event.specs.Walk.{walk}
 use Rattle.trace_writing.specs.Writing.{isWhole, needed, writeNumber, write}

@@ -4,7 +4,6 @@ use mathlib.Core.Bool.{Bool}
 use mathlib.Core.List.{List, [], _∷_, _++_}
 use Rattle.rules.specs.Choice.{if_then_else_}
 use Rattle.memory.specs.Memory.{store}
-use Rattle.filter.specs.declared.Filter.{Filter}
 use Rattle.engine.specs.declared.Engine.{Engine}
 use Rattle.trace.specs.declared.Found.{Found}
 use Rattle.trace_writing.specs.declared.Written.{Written}

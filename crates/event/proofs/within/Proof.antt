@@ -1,7 +1,5 @@
 use Rattle.rules.proofs.Choices.{choices}
-use borrow.Author.Needs.{needs}
-use Rattle.event.specs.Sizes.{begins, sizeBy, noneBy}
-use Rattle.event.specs.Walk.{endingBy}
+use Rattle.event.specs.Sizes.{sizeBy}
 use Rattle.event.proofs.within.Statement.{statement}
 use Rattle.event.proofs.within.Tie as tie
 
