@@ -16,10 +16,10 @@ use Rattle.stream.specs.Stream.{eventBytes}
 use Rattle.trace.specs.declared.Found.{Found}
 use Rattle.trace.specs.Reading.{look}
 use Rattle.enet.specs.Device.{new}
+use Rattle.trace.proofs.Good.{look-given}
 use Rattle.playback.specs.Playing.{Played, play, benchOf}
 use Rattle.playback.proofs.Turns.{length-play}
 use Rattle.replaying.specs.Replay.{replayNumber, played, replay}
-use Rattle.replaying.proofs.Laws.{look-given}
 
 -- a list put at the front of another, and the rest behind it
 front-stored : (a s : List ℕ) → length s ≤ length a → take (length s) (store a 0 s) ≡ s
@@ -57,7 +57,7 @@ module _ (t room m out a : List ℕ) (done : replayNumber t (length room) (lengt
       let f = look t (length room) in
       let read = done-read t (length room) (length a) done in
       length-play (walk (eventBytes t) .events) (benchOf (new (f .base) (f .window) .device) m) out
-      ∙ sym (ap (λ (x : Found). x .events) (look-given t (length room) (read .0) .0))
+      ∙ sym (ap (λ (x : Found). x .events) (look-given t (length room) (read .0) .1 .0))
 
   pub answers-there : take (look t (length room) .events) (replay t room m out a .answers) ≡ day (look t (length room)) t m out .answers
   answers-there =

@@ -3,16 +3,15 @@ use Prim.Native.Nat.{ℕ, _≤_, _<_}
 use mathlib.Core.Path.{_≡_, refl, ap, _∙_}
 use mathlib.Core.List.{List}
 use native.Mathlib.Omega.{arith}
-use borrow.Author.Tests.{lt-ltb, le-ltb, ltb-false, eq-eqb, ne-eqb, eqb-true, eqb-false}
-use lib.Dec.{eqb, ltb}
+use borrow.Author.Tests.{lt-ltb, le-ltb, eq-eqb, ne-eqb}
 use lib.ListN.{length, take}
-use Rattle.rules.proofs.Choices.{by-bool, if-yes, if-no}
+use Rattle.rules.proofs.Choices.{if-yes, if-no}
 use Rattle.memory.specs.Memory.{store}
 use Rattle.memory.proofs.Stores.{part-back}
 use Rattle.stream.specs.Stream.{eventBytes}
 use Rattle.trace.specs.declared.Found.{Found}
-use Rattle.trace.specs.Judge.{firstBad}
-use Rattle.trace.specs.Reading.{given, look}
+use Rattle.trace.specs.Reading.{look}
+use Rattle.trace.proofs.Good.{look-given}
 use Rattle.enet.specs.declared.Enet.{Enet}
 use Rattle.enet.specs.declared.Answered.{Answered}
 use Rattle.enet.specs.Device.{new, reset}
@@ -24,23 +23,6 @@ use Rattle.replaying.specs.Replay.{replaying, refusal, replayNumber, rep
 pub refusal-is : (number block : ℕ) (d : Enet) → d ≡ reset
     → _≡_ {A = Replayed} (record { number = number; block = block; bytes = 0; events = 0; device = d }) (refusal number block)
 refusal-is number block d e = rw e
-
--- what is read has no bad block
-pub look-good : (t : List ℕ) (room : ℕ) → look t room .number ≡ 0 → firstBad t .number ≡ 0
-unfolding look
-look-good t room h =
-    by-bool (eqb (firstBad t .number) 0) (λ e. eqb-true (firstBad t .number) 0 e)
-    (λ e. absurd (eqb-false (firstBad t .number) 0 e (rw e at h)))
-
--- it is given as it is, and has room
-pub look-given : (t : List ℕ) (room : ℕ) → look t room .number ≡ 0 → (look t room ≡ given t) × (length (eventBytes t) ≤ room)
-unfolding look
-look-given t room h =
-    by-bool (eqb (firstBad t .number) 0)
-    (λ e.
-    by-bool (ltb room (length (eventBytes t))) (λ l. absurd (omega (arith, rw (e, l) at h)))
-    (λ l. rw (e, l) (refl, ltb-false room (length (eventBytes t)) l)))
-    (λ e. absurd (eqb-false (firstBad t .number) 0 e (rw e at h)))
 
 -- ---- its number: the reading's, then 24
 
@@ -86,7 +68,7 @@ module _ (t room m out a : List ℕ) (f : Found) (look-is : f ≡ look t (length
       let found = look t (length room) in
       let g : found .number ≡ 0 = rw look-is at h in
       let k : found .events ≤ length a = rw look-is at l in
-      let read = look-given t (length room) g in
+      let read = look-given t (length room) g .1 in
       let fits = read .1 in
       let all : found .bytes ≡ length (eventBytes t) = ap (λ (x : Found). x .bytes) (read .0) in
       let back : take (length (eventBytes t)) (store room 0 (eventBytes t)) ≡ eventBytes t = part-back room 0 (eventBytes t) (omega arith) in

@@ -1,3 +1,4 @@
 pub mod Bytes
+pub mod Good
 pub mod Judged
 pub mod Looked

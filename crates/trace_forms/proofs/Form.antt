@@ -19,6 +19,7 @@ use Rattle.stream.specs.Stream.{stream, baseOf, windowOf, eventsOf, eventBytes}
 use Rattle.stream.proofs.Laws.{count-least}
 use Rattle.stream.proofs.Sound.{length-full, length-last, front-of, placeOf, byte-at}
 use Rattle.trace.specs.Judge.{firstBad}
+use Rattle.trace.proofs.Good.{look-given, sound, header-right, events-whole}
 use Rattle.trace_writing.specs.Made.{blocksFor, blocksOf, traceOf}
 use Rattle.trace_writing.specs.Writing.{isWhole, needed, writeNumber}
 use Rattle.trace_writing.proofs.Putting.{blocks-more}
@@ -27,7 +28,6 @@ use Rattle.trace_forms.specs.Forms.{OneForm, OneTrace}
 use Rattle.trace_forms.proofs.Bytewise.{bytes-drop, bytes-take, past}
 use Rattle.trace_forms.proofs.Header.{header-same}
 use Rattle.trace_forms.proofs.Blockwise.{share}
-use Rattle.trace_forms.proofs.Good.{look-given, sound, header-right, events-whole}
 
 -- ---- the blocks
 
@@ -137,7 +137,7 @@ unfolding eventBytes
 one-form t room bytes e =
     let g = look-given t room e in
     let s = stream t (blockCount (length t)) in
-    rw (g .1)
+    rw (g .1 .0)
     (record {
       only = made-of t bytes (g .0);
       written = not-refused (baseOf s) (windowOf s) (eventsOf s) (length t) (can-be t bytes (g .0));

@@ -4,5 +4,4 @@ pub mod Lists
 pub mod Header
 pub mod Blockwise
 pub mod Back
-pub mod Good
 pub mod Form

@@ -22,4 +22,4 @@ pub replay-changes-nothing : ChangesNothing
 unfolding replay
 replay-changes-nothing t room memory output answers h =
     by-bool (eqb (replayNumber t (length room) (length answers)) 0) (λ u. absurd (h (rw u)))
-    (λ u. record { state = rw u; room = rw u; memory = rw u; output = rw u; answers = rw u })
+    (λ u. record { state = rw u; block = rw u; room = rw u; memory = rw u; output = rw u; answers = rw u })

@@ -3,6 +3,7 @@ use Prim.Native.Nat.{ℕ, _≤_, _<_}
 use mathlib.Core.Path.{_≡_}
 use mathlib.Core.Logic.{_⊎_}
 use mathlib.Core.List.{List}
+use lib.ListN.{length}
 use Rattle.trace.specs.Reading.{look}
 use Rattle.enet.specs.Device.{reset}
 use Rattle.replaying.specs.Replay.{replayNumber, replay}
@@ -21,6 +22,8 @@ Exactly = (t : List ℕ) (room answers : ℕ) → Says t room answers
 -- a refusal has row 1's state, and leaves the room, the memory, the output and the answers as they were
 pub record Kept (t r m o a : List ℕ) : Type 0 where
   pub state : replay t r m o a .replayed .device ≡ reset
+  -- of a bad block its place, 0 where the reason is no block's
+  pub block : replay t r m o a .replayed .block ≡ look t (length r) .block
   pub room : replay t r m o a .room ≡ r
   pub memory : replay t r m o a .memory ≡ m
   pub output : replay t r m o a .output ≡ o

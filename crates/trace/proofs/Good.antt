@@ -15,17 +15,20 @@ use Rattle.event.specs.declared.Ending.the-variants.{Whole, Cut, NoEvent}
 use Rattle.stream.specs.Blocks.{blockCount, isLast, faultAt, Sound}
 use Rattle.stream.specs.Stream.{stream, baseOf, windowOf, eventsOf, eventBytes}
 use Rattle.stream.proofs.Laws.{count-least}
 use Rattle.trace.specs.Judge.{headerFault, endingFault, eventFault, reason, judge, firstBad}
 use Rattle.trace.specs.Reading.{given, look}
 
 -- ---- reading without a refusal
 
-pub look-given : (t : List ℕ) (room : ℕ) → look t room .number ≡ 0 → (firstBad t .number ≡ 0) × (look t room ≡ given t)
+-- no block is bad, all is given, and the events have room
+pub look-given : (t : List ℕ) (room : ℕ) → look t room .number ≡ 0
+    → (firstBad t .number ≡ 0) × ((look t room ≡ given t) × (length (eventBytes t) ≤ room))
 unfolding look
 look-given t room e =
     by-bool (eqb (firstBad t .number) 0)
     (λ u.
-    (eqb-true (firstBad t .number) 0 u, by-bool (ltb room (length (eventBytes t))) (λ v. absurd (omega (arith, rw (u, v) at e))) (λ v. rw (u, v))))
+    by-bool (ltb room (length (eventBytes t))) (λ v. absurd (omega (arith, rw (u, v) at e)))
+    (λ v. (eqb-true (firstBad t .number) 0 u, (rw (u, v), ltb-false room (length (eventBytes t)) v))))
     (λ u. absurd (eqb-false (firstBad t .number) 0 u (rw u at e)))
 
 -- ---- the search for a bad block
