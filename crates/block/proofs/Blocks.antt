@@ -7,7 +7,7 @@ use native.Mathlib.Omega.{arith}
 use lib.ListN.{length, take, replicate, length-take, length-append, length-replicate}
 use lib.Seq.{take-all}
 use Rattle.memory.specs.Memory.{store, storeWord, wordBytes}
-use Rattle.memory.proofs.Stores.{store-append}
+use Rattle.memory.proofs.Stores.{length-word-bytes, store-append}
 use Rattle.block.specs.Fields.{weighted, checkOf}
 use Rattle.block.specs.Made.{halfBytes, filled, frontOf, blockOf}
 use Rattle.block.proofs.Weights.{weighted-append, weighted-zeros}
@@ -56,6 +56,12 @@ length-halves a b = refl
 pub length-front : (k : ℕ) (s : List ℕ) → length (frontOf k s) ≡ 508
 length-front k s =
     rw (front-is k s, length-append (halfBytes k ++ halfBytes (length s)) (filled s), length-halves k (length s), length-filled s)
+
+pub length-block : (k : ℕ) (s : List ℕ) → length (blockOf k s) ≡ 512
+unfolding blockOf
+length-block k s =
+    length-append (frontOf k s) (wordBytes (checkOf (frontOf k s)))
+    ∙ omega (arith, length-front k s, length-word-bytes (checkOf (frontOf k s)))
 
 -- ---- What is put
 

@@ -3,13 +3,12 @@ use Prim.Native.Nat.{ℕ, _+_, _-_, _/_, _%_, _^_, _≤_, _<_}
 use mathlib.Core.Path.{_≡_, refl, sym, ap, _∙_}
 use mathlib.Core.List.{List, [], _∷_, _++_}
 use native.Mathlib.Omega.{arith}
-use lib.ListN.{length, take, replicate, length-append}
+use lib.ListN.{length, take, replicate}
 use lib.Seq.{take-at, drop-at, take-all, getD-append-add, getD-append-seam}
 use Rattle.memory.specs.Memory.{word, wordBytes}
-use Rattle.memory.proofs.Stores.{length-word-bytes}
 use Rattle.block.specs.Fields.{blockNumber, usedLength, dataOf, usedData, unusedData, storedCheck, weighted, checkOf}
 use Rattle.block.specs.Made.{halfBytes, filled, frontOf, blockOf}
-use Rattle.block.proofs.Blocks.{filled-is, length-filled, length-front}
+use Rattle.block.proofs.Blocks.{filled-is, length-filled, length-front, length-block}
 use Rattle.block_forms.specs.Forms.{MadeBack}
 
 -- a word that stands behind other bytes
@@ -38,12 +37,6 @@ pub filled-parts : (d : List ℕ) → length d ≤ 504 → filled d ≡ d ++ rep
 filled-parts d room = filled-is d ∙ ap (λ (l : List ℕ). l ++ replicate (504 - length l) 0) (take-all 504 d room)
 
 module _ (k : ℕ) (d : List ℕ) where
-  pub length-block : length (blockOf k d) ≡ 512
-  unfolding blockOf
-  length-block =
-      length-append (frontOf k d) (wordBytes (checkOf (frontOf k d)))
-      ∙ omega (arith, length-front k d, length-word-bytes (checkOf (frontOf k d)))
-
   pub number-back : k < 65536 → blockNumber (blockOf k d) ≡ k
   unfolding blockNumber blockOf frontOf halfBytes
   number-back h = omega arith

@@ -12,7 +12,8 @@ use Rattle.block.specs.Made.{blockOf}
 use Rattle.block.proofs.Ways.{used-last, used-other}
 use Rattle.block_forms.specs.Forms.{MadeGood}
 use Rattle.block_forms.proofs.Lists.{zeros-zero}
-use Rattle.block_forms.proofs.Back.{length-block, number-back, used-back, check-back, unused-back}
+use Rattle.block.proofs.Blocks.{length-block}
+use Rattle.block_forms.proofs.Back.{number-back, used-back, check-back, unused-back}
 
 used-good : (last : Bool) (u : ℕ) → 1 ≤ u → u ≤ 504 → (last ≡ true) ⊎ (u ≡ 504) → usedFault last u ≡ false
 used-good last u some room (inl e) = sym (used-last last u (λ q. omega arith) room e)

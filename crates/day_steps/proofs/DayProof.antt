@@ -16,8 +16,8 @@ days-are-steps p output (e ∷ es) =
 
 pub days-in-parts : DaysInParts
 unfolding play
-days-in-parts b output [] es = record { bench = refl; output₁ = refl; answers = refl }
+days-in-parts b output [] es = record { bench = refl; output = refl; answers = refl }
 days-in-parts b output (d ∷ ds) es =
     let a = act b output d in
     let rest = days-in-parts (a .bench) (a .output) ds es in
-    record { bench = rest .bench; output₁ = rest .output₁; answers = ap (λ (l : List ℕ). a .number ∷ l) (rest .answers) }
+    record { bench = rest .bench; output = rest .output; answers = ap (λ (l : List ℕ). a .number ∷ l) (rest .answers) }

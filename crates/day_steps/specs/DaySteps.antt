@@ -30,10 +30,10 @@ DaysAreSteps = (p : Progress) (output : List ℕ) (es : List Event) → Same p o
 
 -- a day in two parts: the second meets what the first left. So a list of steps may begin in the middle of a day, as where a ring
 -- is sound and receiving runs
-pub record InParts (b : Bench) (output : List ℕ) (ds es : List Event) : Type 0 where
-  pub bench : play b output (ds ++ es) .bench ≡ play (play b output ds .bench) (play b output ds .output) es .bench
-  pub output₁ : play b output (ds ++ es) .output ≡ play (play b output ds .bench) (play b output ds .output) es .output
-  pub answers : play b output (ds ++ es) .answers ≡ play b output ds .answers ++ play (play b output ds .bench) (play b output ds .output) es .answers
+pub record InParts (b : Bench) (o : List ℕ) (ds es : List Event) : Type 0 where
+  pub bench : play b o (ds ++ es) .bench ≡ play (play b o ds .bench) (play b o ds .output) es .bench
+  pub output : play b o (ds ++ es) .output ≡ play (play b o ds .bench) (play b o ds .output) es .output
+  pub answers : play b o (ds ++ es) .answers ≡ play b o ds .answers ++ play (play b o ds .bench) (play b o ds .output) es .answers
 
 abbrev pub DaysInParts : Type 0
 DaysInParts = (b : Bench) (output : List ℕ) (ds es : List Event) → InParts b output ds es

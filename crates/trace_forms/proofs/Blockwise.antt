@@ -11,12 +11,13 @@ use lib.Seq.{take-all, take-at, take-add, drop-at, drop-drop}
 use borrow.Author.Tests.{ne-eqb, eqb-false}
 use Rattle.rules.proofs.Choices.{by-bool}
 use Rattle.block.specs.Made.{blockOf}
+use Rattle.block.proofs.Blocks.{length-block}
 use Rattle.block_forms.proofs.Back.{made-back}
 use Rattle.block_forms.proofs.Good.{made-good}
 use Rattle.stream.specs.Blocks.{blockAt, blockCount, isLast, faultAt, Sound}
 use Rattle.stream.specs.Stream.{stream}
 use Rattle.trace_writing.specs.Made.{blocksFor, blocksOf}
-use Rattle.trace_writing.proofs.Putting.{length-block, length-blocks}
+use Rattle.trace_writing.proofs.Putting.{length-blocks}
 
 -- the bytes of s that block k has
 abbrev pub share : List ℕ → ℕ → List ℕ

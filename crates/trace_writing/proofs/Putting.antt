@@ -7,17 +7,10 @@ use native.Mathlib.Nat.{add-zero}
 use lib.ListN.{length, take, drop, length-append, length-take}
 use lib.Seq.{drop-drop}
 use Rattle.memory.specs.Memory.{wordBytes, store}
-use Rattle.memory.proofs.Stores.{length-word-bytes, length-store, part-back, store-append}
-use Rattle.block.specs.Fields.{checkOf}
-use Rattle.block.specs.Made.{halfBytes, frontOf, blockOf}
-use Rattle.block.proofs.Blocks.{length-front}
+use Rattle.memory.proofs.Stores.{length-store, part-back, store-append}
+use Rattle.block.specs.Made.{halfBytes, blockOf}
+use Rattle.block.proofs.Blocks.{length-block}
 use Rattle.trace_writing.specs.Made.{streamOf, blocksOf}
-
-pub length-block : (k : ℕ) (s : List ℕ) → length (blockOf k s) ≡ 512
-unfolding blockOf
-length-block k s =
-    length-append (frontOf k s) (wordBytes (checkOf (frontOf k s)))
-    ∙ omega (arith, length-front k s, length-word-bytes (checkOf (frontOf k s)))
 
 pub length-blocks : (n k : ℕ) (s : List ℕ) → length (blocksOf k n s) ≡ 512 * n
 unfolding blocksOf

@@ -21,5 +21,11 @@ at-spec =
     (λ c. search at-ways)
     (λ c. search needs)
     (λ c. search needs)
-    (λ c. at-frame _ _ _ _ _ (c .before .before .before .before .before .before .before .if1 .left) (c .before .before .before .before .before .before .byte .ensures) (c .before .before .before .before .before .word .ensures) (c .before .before .before .before .size .ensures) (c .before .before .before .if2 .left) (c .if5 .taken))
+    (λ c.
+    let whole = c .before .before .before in
+    let sized = whole .before in
+    let four = sized .before in
+    let first = four .before in
+    let inside = first .before in
+    at-frame _ _ _ _ _ (inside .if1 .left) (first .byte .ensures) (four .word .ensures) (sized .size .ensures) (whole .if2 .left) (c .if5 .taken))
     (λ c. search at-ways))
