@@ -1,25 +1,19 @@
 -- Laws of a block that is made of its number and its used data: its zero fill, its check, its stores. Assumes nothing.
-use Prim.Native.Nat.{ℕ, zero, suc, _+_, _-_, _%_, _≤_}
+use Prim.Native.Nat.{ℕ, zero, suc, _+_, _-_, _≤_, _<_}
 use mathlib.Core.Path.{_≡_, refl, sym, ap, _∙_}
 use mathlib.Core.List.{List, [], _∷_, _++_, append-assoc}
 use native.Mathlib.Nat.{suc-sub-suc, sub-zero}
 use native.Mathlib.Omega.{arith}
-use lib.ListN.{length, take, replicate, length-take, length-append, length-replicate}
-use lib.Seq.{take-all}
+use lib.ListN.{length, take, drop, replicate, length-take, length-drop, length-append, length-replicate}
 use Rattle.memory.specs.Memory.{store, storeWord, wordBytes}
-use Rattle.memory.proofs.Stores.{length-word-bytes, store-append}
-use Rattle.block.specs.Fields.{weighted, checkOf}
+use Rattle.memory.proofs.Laws.{store-out}
+use Rattle.memory.proofs.Stores.{length-word-bytes, length-store, part-back, store-append}
+use Rattle.block.specs.Fields.{checkOf}
 use Rattle.block.specs.Made.{halfBytes, filled, frontOf, blockOf}
-use Rattle.block.proofs.Weights.{weighted-append, weighted-zeros}
 
 -- a part of at most n bytes
 pub part-small : (p s : List ℕ) (n : ℕ) → p ≡ take n s → length p ≤ n
 part-small p s n e = rw e (simp length-take (omega arith))
-
--- the check of bytes whose sum is in hand
-pub check-is : (b p : List ℕ) (r : ℕ) → p ≡ take 508 b → r ≡ weighted 0 p → r % 65521 ≡ checkOf b
-unfolding checkOf
-check-is b p r ep er = rw (er, ep)
 
 -- ---- The zero fill
 
@@ -75,22 +69,39 @@ module _ (k : ℕ) (s head kept : List ℕ) (eh : head ≡ halfBytes k ++ halfBy
   length-head : length head ≡ 4
   length-head = rw eh (length-halves k (length s))
 
-  -- the zeros add nothing to the check
-  check-parts : (x y : ℕ) → x ≡ weighted 0 head → y ≡ weighted 4 kept → (x + y) % 65521 ≡ checkOf (frontOf k s)
-  unfolding checkOf
-  check-parts x y ex ey =
-      rw (take-all 508 (frontOf k s) (omega (arith, length-front k s)), front-parts, weighted-append 0 head (kept ++ zeros), length-head, weighted-append 4 kept zeros)
-      (rw (ex, ey, weighted-zeros (4 + length kept) (504 - length kept)) (ap (λ (n : ℕ). n % 65521) (omega arith)))
-
-  pub all-put : (m m₁ m₂ m₃ m₄ : List ℕ) (at x y : ℕ) → x ≡ weighted 0 head → y ≡ weighted 4 kept
-      → m₁ ≡ store m at head → m₂ ≡ store m₁ (at + 4) kept → m₃ ≡ store m₂ (at + 4 + length kept) (replicate (504 - length kept) 0)
-      → m₄ ≡ storeWord m₃ (at + 508) ((x + y) % 65521) → m₄ ≡ store m at (blockOf k s)
-  unfolding blockOf
-  all-put m m₁ m₂ m₃ m₄ at x y ex ey e₁ e₂ e₃ e₄ =
+  pub front-put : (m m₁ m₂ m₃ : List ℕ) (at : ℕ) → m₁ ≡ store m at head → m₂ ≡ store m₁ (at + 4) kept
+      → m₃ ≡ store m₂ (at + 4 + length kept) (replicate (504 - length kept) 0) → m₃ ≡ store m at (frontOf k s)
+  front-put m m₁ m₂ m₃ at e₁ e₂ e₃ =
       let j₁ : at + 4 ≡ at + length head = omega (arith, length-head) in
       let s₂ : m₂ ≡ store m at (head ++ kept) = rw (e₂, e₁) (store-append m at (at + 4) head kept j₁) in
       let j₂ : at + 4 + length kept ≡ at + length (head ++ kept) = omega (arith, length-head, length-append head kept) in
-      let s₃ : m₃ ≡ store m at (frontOf k s) =
-      rw (e₃, s₂) (store-append m at (at + 4 + length kept) (head ++ kept) zeros j₂ ∙ ap (store m at) (append-assoc head kept zeros ∙ sym front-parts)) in
-      let j₃ : at + 508 ≡ at + length (frontOf k s) = omega (arith, length-front k s) in
-      rw (e₄, s₃, check-parts x y ex ey) (store-append m at (at + 508) (frontOf k s) (wordBytes (checkOf (frontOf k s))) j₃)
+      rw (e₃, s₂) (store-append m at (at + 4 + length kept) (head ++ kept) zeros j₂ ∙ ap (store m at) (append-assoc head kept zeros ∙ sym front-parts))
+
+-- the check behind bytes 0 to 507
+module _ (k : ℕ) (s m m₁ : List ℕ) (at : ℕ) (e : m₁ ≡ store m at (frontOf k s)) where
+  check-put : (m₂ : List ℕ) (check : ℕ) → check ≡ checkOf (frontOf k s) → m₂ ≡ storeWord m₁ (at + 508) check → m₂ ≡ store m at (blockOf k s)
+  unfolding blockOf
+  check-put m₂ check c e₂ =
+      let j : at + 508 ≡ at + length (frontOf k s) = omega (arith, length-front k s) in
+      rw (e₂, e, c) (store-append m at (at + 508) (frontOf k s) (wordBytes (checkOf (frontOf k s))) j)
+
+  -- it has no place
+  pub put-short : length m₁ - at < 508 → m₁ ≡ store m at (blockOf k s)
+  put-short h = check-put m₁ _ refl (store-out m₁ (at + 508) (wordBytes (checkOf (frontOf k s))) (omega arith))
+
+  -- it is read of them in the room
+  pub put-whole : (p m₂ : List ℕ) (check : ℕ) → 508 ≤ length m₁ - at → p ≡ take 508 (drop at m₁) → check ≡ checkOf p
+      → m₂ ≡ storeWord m₁ (at + 508) check → m₂ ≡ store m at (blockOf k s)
+  put-whole p m₂ check h ep c e₂ =
+      let l = length-front k s in
+      let long : length m₁ ≡ length m = rw e (length-store m at (frontOf k s)) in
+      let back : take (length (frontOf k s)) (drop at (store m at (frontOf k s))) ≡ frontOf k s = part-back m at (frontOf k s) (omega arith) in
+      let there : p ≡ frontOf k s = ep ∙ rw e (rw l at back) in
+      check-put m₂ check (rw (c, there)) e₂
+
+-- a part that is all there
+pub part-long : (p s : List ℕ) (at n : ℕ) → p ≡ take n (drop at s) → n ≤ length s - at → length p ≡ n
+part-long p s at n e h = rw e (simp (length-take, length-drop) (omega arith))
+
+pub part-long-enough : (p s : List ℕ) (at n : ℕ) → p ≡ take n (drop at s) → n ≤ length s - at → n ≤ length p
+part-long-enough p s at n e h = omega (arith, part-long p s at n e h)

@@ -1,4 +1,3 @@
 pub mod Fields
 pub mod Faults
 pub mod Made
-pub mod Sums

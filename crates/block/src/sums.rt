@@ -1,52 +1,49 @@
-// The check of a block.
+// The check of a block. Bytes 0 to 507 are weighed in four quarters of 127: bytes at the same place of their quarters have one
+// weight there, and 127 more for each quarter before. So four bytes need one product.
 ghost use Prim.Native.Nat.{_+_, _*_, _≤_};
 ghost use mathlib.Core.Path.{_≡_};
 ghost use lib.ListN.{length};
 ghost use Rattle.block.specs.Fields.{weighted, checkOf};
-ghost use Rattle.block.specs.Sums.{lowWeighted, total};
 
-// Each byte times its weight's remainder by 256, summed. A compiler that knows both factors to be small multiplies eight at once.
-fn low(position: u32, bytes: &[u8]) -> u32
-    requires { ⌜ position + length (now bytes) ≤ 508 ⌝ }
-    ensures { λ r. ⌜ (r ≡ lowWeighted position (now (bytes .entry))) × (r ≤ 508 * 65025) ⌝ }
+// Four bytes of one place, by their weight in the first quarter. Their sums fit 16 bits, so that a compiler adds eight at once.
+fn four(a: u8, b: u8, c: u8, d: u8, weight: u8) -> u32
+    requires { ⌜ weight ≤ 127 ⌝ }
+    ensures { λ r. ⌜ (r ≡ a * weight + b * (weight + 127) + c * (weight + 254) + d * (weight + 381)) × (r ≤ 323850) ⌝ }
+{
+    let second = b as u16;
+    let third = c as u16;
+    let last = d as u16;
+    let all = a as u16 + second + third + last;
+    let over = second + third + third + last + last + last;
+    all as u32 * weight as u32 + 127 * over as u32
+}
+
+// Each byte times its position plus one, summed.
+fn weigh(a: &[u8], b: &[u8], c: &[u8], d: &[u8]) -> u32
+    requires { ⌜ (length (now a) ≡ 127) × ((length (now b) ≡ 127) × ((length (now c) ≡ 127) × (length (now d) ≡ 127))) ⌝ }
+    ensures { λ r. ⌜ r ≡ weighted 0 (now (a .entry)) + weighted 127 (now (b .entry)) + weighted 254 (now (c .entry)) + weighted 381 (now (d .entry)) ⌝ }
 {
     let mut sum = 0u32;
-    let mut weight = position;
+    let mut weight = 0u8;
     let mut i = 0;
-    while i < bytes.len() {
+    while i < 127 {
         weight += 1;
-        sum += bytes[i] as u32 * (weight % 256);
+        sum += four(a[i], b[i], c[i], d[i], weight);
         i += 1;
     }
     sum
 }
 
-// The bytes, summed.
-fn total(bytes: &[u8]) -> u32
-    requires { ⌜ length (now bytes) ≤ 508 ⌝ }
-    ensures { λ r. ⌜ (r ≡ total (now (bytes .entry))) × (r ≤ 508 * 255) ⌝ }
-{
-    let mut sum = 0u32;
-    let mut i = 0;
-    while i < bytes.len() {
-        sum += bytes[i] as u32;
-        i += 1;
-    }
-    sum
-}
-
-// Each byte times its position plus one, summed. No byte stands behind a block's 508, so that the weights stay below 512 and the
-// sum far below 2^32: a weight is its remainder by 256, and 256 more from the byte at 255 on.
-pub(crate) fn weigh(position: u32, bytes: &[u8]) -> u32
-    requires { ⌜ (position ≤ 4) × (position + length (now bytes) ≤ 508) ⌝ }
-    ensures { λ r. ⌜ (r ≡ weighted position (now (bytes .entry))) × (r ≤ 508 * 130560) ⌝ }
-{
-    low(position, bytes) + 256 * total(memory::part(bytes, 255 - position as usize, 508))
-}
-
-// The check that a block's bytes 0 to 507 ask for.
+// The check that bytes 0 to 507 ask for.
 pub(crate) fn check(block: &[u8]) -> u32
+    requires { ⌜ 508 ≤ length (now block) ⌝ }
     ensures { λ r. ⌜ r ≡ checkOf (now (block .entry)) ⌝ }
 {
-    weigh(0, memory::part(block, 0, 508)) % 65521
+    let sum = weigh(
+        memory::part(block, 0, 127),
+        memory::part(block, 127, 127),
+        memory::part(block, 254, 127),
+        memory::part(block, 381, 127),
+    );
+    sum % 65521
 }

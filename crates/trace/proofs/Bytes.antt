@@ -22,19 +22,36 @@ use Rattle.stream.proofs.Sound.{right-at, length-last, byte-at}
 use Rattle.stream.proofs.Laws.{count-most}
 use Rattle.trace.specs.Scattered.{byteIn, wordIn, sizeIn}
 
+-- so many bytes behind, in one block
+in-block : (p i : ℕ) → p % 504 + i < 504 → ((p + i) / 504 ≡ p / 504) × ((p + i) % 504 ≡ p % 504 + i)
+in-block p i h = (omega arith, omega arith)
+
 module _ (t : List ℕ) where
   pub byte-past : (p : ℕ) → length t ≤ p → 0 ≡ byteIn t p
   unfolding byteIn
   byte-past p h = sym (List·getD-eq-default t 0 {n = 512 * (p / 504) + 4 + p % 504} (omega arith))
 
-  pub byte-here : (p r : ℕ) → r ≡ getD t (512 * (p / 504) + 4 + p % 504) 0 → r ≡ byteIn t p
+  pub byte-here : (p q r : ℕ) → q ≡ 512 * (p / 504) + 4 + p % 504 → r ≡ getD t q 0 → r ≡ byteIn t p
   unfolding byteIn
-  byte-here p r e = e
+  byte-here p q r h e = e ∙ rw h
 
   pub word-past : (p : ℕ) → length t ≤ p → 0 ≡ wordIn t p
   unfolding wordIn
   word-past p h =
       rw (← byte-past p h, ← byte-past (p + 1) (omega arith), ← byte-past (p + 2) (omega arith), ← byte-past (p + 3) (omega arith))
+
+  -- four bytes of one block
+  pub word-inside : (p at r : ℕ) → p % 504 ≤ 500 → at ≡ 512 * (p / 504) + 4 + p % 504 → r ≡ word t at → r ≡ wordIn t p
+  unfolding wordIn word byteIn
+  word-inside p at r h e f =
+      let k₁ = in-block p 1 (omega arith) in
+      let k₂ = in-block p 2 (omega arith) in
+      let k₃ = in-block p 3 (omega arith) in
+      let q = 512 * (p / 504) + 4 + p % 504 in
+      let m₁ : q + 1 ≡ 512 * (p / 504) + 4 + (p % 504 + 1) = omega arith in
+      let m₂ : q + 2 ≡ 512 * (p / 504) + 4 + (p % 504 + 2) = omega arith in
+      let m₃ : q + 3 ≡ 512 * (p / 504) + 4 + (p % 504 + 3) = omega arith in
+      f ∙ rw (e, k₁ .0, k₁ .1, k₂ .0, k₂ .1, k₃ .0, k₃ .1, m₁, m₂, m₃)
 
   pub word-here : (p a b c d r : ℕ) → a ≡ byteIn t p → b ≡ byteIn t (p + 1) → c ≡ byteIn t (p + 2) → d ≡ byteIn t (p + 3)
       → r ≡ word (a ∷ b ∷ c ∷ d ∷ []) 0 → r ≡ wordIn t p

@@ -1,6 +1,15 @@
 // The used data of a trace's blocks where it lies, in full blocks but for the last.
+ghost use Prim.Native.Nat.{_+_, _*_, _/_, _%_, _^_, _<_};
 ghost use mathlib.Core.Path.{_≡_};
 ghost use Rattle.trace.specs.Scattered.{byteIn, wordIn, sizeIn};
+
+// Where a byte of it lies: behind its block's number and used length, and behind eight such bytes of each block before.
+fn place(p: usize) -> usize
+    requires { ⌜ p < 2 ^ 63 ⌝ }
+    ensures { λ r. ⌜ r ≡ 512 * (p / 504) + 4 + p % 504 ⌝ }
+{
+    p + 8 * (p / 504) + 4
+}
 
 // A byte of it.
 pub(crate) fn byte(trace: &[u8], p: usize) -> u8
@@ -9,15 +18,18 @@ pub(crate) fn byte(trace: &[u8], p: usize) -> u8
     if trace.len() <= p {
         return 0;
     }
-    memory::byte(trace, 512 * (p / 504) + 4 + p % 504)
+    memory::byte(trace, place(p))
 }
 
-// The number of four bytes.
+// The number of four bytes, which mostly lie in one block.
 fn word(trace: &[u8], p: usize) -> u32
     ensures { λ r. ⌜ r ≡ wordIn (now (trace .entry)) p ⌝ }
 {
     if trace.len() <= p {
         return 0;
+    }
+    if p % 504 <= 500 {
+        return memory::word(trace, place(p));
     }
     let four = [
         byte(trace, p),

@@ -8,8 +8,6 @@ byte-spec =
     tie.close
     (tie.spec
     (λ c. search byte-past)
-    (λ c. search needs)
-    (λ c. search needs)
-    (λ c. search needs)
+    (λ c κs. search needs)
     (λ c κs. search needs)
     (λ c. search byte-here))
