@@ -1,13 +1,13 @@
 -- Laws of a block's parts: its zero fill, read in a loop and lent as a part. Assumes nothing.
-use Prim.Native.Nat.{ℕ, zero, suc, _+_, _-_, _≤_, _<_}
+use Prim.Native.Nat.{ℕ, _+_, _-_, _≤_, _<_}
 use mathlib.Core.Bool.{Bool, true, false}
 use mathlib.Core.Path.{_≡_, sym, ap, _∙_}
-use mathlib.Core.List.{List, [], _∷_}
-use native.Mathlib.Nat.{zero-sub, suc-sub-suc, sub-zero}
+use mathlib.Core.List.{List, _∷_}
 use native.Mathlib.Numerals.{add-one}
 use borrow.Author.Tests.{eq-eqb, ne-eqb}
 use lib.ListN.{length, getD, take, drop, drop-of-length-le}
-use lib.Seq.{drop-cons, drop-drop, take-nil}
+use lib.Seq.{drop-cons, drop-drop}
+use Rattle.memory.proofs.Parts.{drop-take}
 use Rattle.block.specs.Fields.{dataOf, usedLength, unusedData}
 use Rattle.block.specs.Faults.{allZero}
 
@@ -29,12 +29,6 @@ unfolding allZero
 zero-end s i all h e = rw (drop-of-length-le s {i = i} h) at e
 
 -- ---- The unused bytes as a part of the block
-
-pub drop-take : (m n : ℕ) (l : List ℕ) → drop m (take n l) ≡ take (n - m) (drop m l)
-drop-take zero n l = rw (sub-zero n)
-drop-take (suc m) zero l = rw (zero-sub (suc m))
-drop-take (suc m) (suc n) [] = sym (take-nil (suc n - suc m))
-drop-take (suc m) (suc n) (x ∷ l) = rw (suc-sub-suc n m) (drop-take m n l)
 
 pub unused-part : (b : List ℕ) (u : ℕ) → u ≡ usedLength b → take (504 - u) (drop (4 + u) b) ≡ unusedData b
 unfolding unusedData dataOf

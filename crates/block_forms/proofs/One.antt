@@ -1,61 +1,20 @@
 -- A block with no fault is the block that is made of its number and its used data. Assumes nothing.
 use Prim.Native.Nat.{ℕ, _+_, _-_, _≤_, _<_}
-use mathlib.Core.Path.{_≡_, refl, sym, ap, ap₂, _∙_}
-use mathlib.Core.Bool.{Bool, true, false, not, _&&_, _||_}
+use mathlib.Core.Path.{_≡_, sym, ap, ap₂, _∙_}
+use mathlib.Core.Bool.{true}
 use mathlib.Core.List.{List, _++_}
 use native.Mathlib.Omega.{arith}
-use borrow.Author.Tests.{eqb-true, ltb-false, not-false}
-use lib.Dec.{eqb, ltb}
 use lib.ListN.{length, getD, take, drop, replicate, length-drop, take-append-drop}
 use lib.Seq.{length-take-le, take-all, take-add, getD-drop}
-use Rattle.rules.specs.Choice.{if_then_else_}
-use Rattle.rules.proofs.Choices.{or-parts}
 use Rattle.memory.specs.Memory.{word, wordBytes}
 use Rattle.block.specs.Fields.{blockNumber, usedLength, dataOf, usedData, unusedData, storedCheck, checkOf}
-use Rattle.block.specs.Faults.{usedFault, allZero, blockFault}
+use Rattle.block.specs.Faults.{allZero}
 use Rattle.block.specs.Made.{halfBytes, filled, frontOf, blockOf}
 use Rattle.block.proofs.Blocks.{front-is, length-front}
-use Rattle.block.proofs.Ways.{used-in}
+use Rattle.block.proofs.Right.{right, used-long}
 use Rattle.block_forms.specs.Forms.{Bytes, OneForm}
 use Rattle.block_forms.proofs.Lists.{zero-zeros, four-first, half-bytes, word-bytes}
 use Rattle.block_forms.proofs.Back.{filled-parts, check-front}
-
--- a chain of tests that gives 0: the first failed, and the rest gives 0
-passed : (t : Bool) (n x : ℕ) → 0 < n → (if t then n else x) ≡ 0 → (t ≡ false) × (x ≡ 0)
-passed true n x h e = absurd (omega arith)
-passed false n x h e = (refl, e)
-
--- what a block with no fault has passed
-record Passed (last : Bool) (k : ℕ) (b : List ℕ) : Type 0 where
-  whole : length b ≡ 512
-  number : blockNumber b ≡ k
-  check : storedCheck b ≡ checkOf b
-  used : usedFault last (usedLength b) ≡ false
-  fill : allZero (unusedData b) ≡ true
-
-all-passed : (last : Bool) (k : ℕ) (b : List ℕ) → blockFault last k b ≡ 0 → Passed last k b
-unfolding blockFault
-all-passed last k b e =
-    let p₁ = passed (not (eqb (length b) 512)) 17 _ (omega arith) e in
-    let p₂ = passed (not (eqb (blockNumber b) k)) 18 _ (omega arith) (p₁ .1) in
-    let p₃ = passed (not (eqb (storedCheck b) (checkOf b))) 19 _ (omega arith) (p₂ .1) in
-    let p₄ = passed (usedFault last (usedLength b)) 20 _ (omega arith) (p₃ .1) in
-    let p₅ = passed (not (allZero (unusedData b))) 21 0 (omega arith) (p₄ .1) in
-    record {
-      whole = eqb-true _ _ (not-false _ (p₁ .0));
-      number = eqb-true _ _ (not-false _ (p₂ .0));
-      check = eqb-true _ _ (not-false _ (p₃ .0));
-      used = p₄ .0;
-      fill = not-false _ (p₅ .0);
-    }
-
--- "only the last may be part-filled"
-used-full : (last : Bool) (u : ℕ) → u ≤ 504 → usedFault last u ≡ false → last ≡ false → u ≡ 504
-unfolding usedFault
-used-full last u room e l =
-    let p = or-parts (eqb u 0 || ltb 504 u) (not last && ltb u 504) e in
-    let f : ltb u 504 ≡ false = rw l at (p .1) in
-    omega (arith, ltb-false u 504 f)
 
 number-small : (b : List ℕ) → Bytes b → blockNumber b < 65536
 unfolding blockNumber
@@ -87,8 +46,7 @@ module _ (b : List ℕ) (bytes : Bytes b) (whole : length b ≡ 512) where
 
   module _ (room : usedLength b ≤ 504) where
     length-used : length (usedData b) ≡ usedLength b
-    unfolding usedData
-    length-used = length-take-le (usedLength b) (dataOf b) (omega (arith, length-data))
+    length-used = used-long b whole room
 
     length-unused : length (unusedData b) ≡ 504 - length (usedData b)
     unfolding unusedData
@@ -126,14 +84,13 @@ module _ (b : List ℕ) (bytes : Bytes b) (whole : length b ≡ 512) where
 
 pub one-form : OneForm
 one-form last k b bytes e =
-    let p = all-passed last k b e in
-    let u = used-in last (usedLength b) (usedFault last (usedLength b)) refl (p .used) in
+    let r = right last k b e in
     record {
-      same = all-same b bytes (p .whole) (u .1) (p .fill) (p .check) ∙ ap (λ (n : ℕ). blockOf n (usedData b)) (p .number);
-      number = rw (p .number) at (number-small b bytes);
-      whole = p .whole;
-      some = u .0;
-      room = u .1;
-      used = length-used b bytes (p .whole) (u .1);
-      full = used-full last (usedLength b) (u .1) (p .used);
+      same = all-same b bytes (r .long) (r .fits) (r .fill) (r .check) ∙ ap (λ (n : ℕ). blockOf n (usedData b)) (r .number);
+      number = rw (r .number) at (number-small b bytes);
+      whole = r .long;
+      some = r .some;
+      room = r .fits;
+      used = used-long b (r .long) (r .fits);
+      full = r .full;
     }

@@ -1,6 +1,6 @@
 -- The bytes that a word names, as they are decoded into a room of 2,048. Assumes nothing.
 use Prim.Native.Nat.{ℕ, _+_, _≤_, _<_}
-use mathlib.Core.Path.{_≡_, sym, ap, _∙_}
+use mathlib.Core.Path.{_≡_, refl, sym, ap, _∙_}
 use mathlib.Core.List.{List}
 use native.Mathlib.Omega.{arith}
 use borrow.Author.Tests.{leb-true, leb-false}
@@ -10,9 +10,8 @@ use lib.Seq.{take-all}
 use Rattle.rules.proofs.Choices.{by-bool}
 use Rattle.memory.specs.Memory.{store}
 use Rattle.memory.proofs.Laws.{store-out}
-use Rattle.memory.proofs.Stores.{length-store, part-back}
+use Rattle.memory.proofs.Stores.{length-store, part-back, store-append}
 use Rattle.forms.specs.Pairs.{Decoded, bytesOf, decoded, decode}
-use Rattle.text.proofs.Laws.{store-append}
 use Rattle.commands.specs.Commands.{named}
 
 -- a store over all of a list
@@ -33,7 +32,7 @@ store-front m s =
     let u = take (length m) s in
     let v = drop (length m) s in
     let lu : length u ≡ length m = simp length-take (omega arith) in
-    let a : store (store m 0 u) (0 + length u) v ≡ store m 0 s = rw (take-append-drop (length m) s) at (store-append u v m 0) in
+    let a : store (store m 0 u) (0 + length u) v ≡ store m 0 s = rw (take-append-drop (length m) s) at (store-append m 0 (0 + length u) u v refl) in
     let f : length (store m 0 u) ≤ 0 + length u = omega (arith, length-store m 0 u) in
     let o : store m 0 u ≡ store (store m 0 u) (0 + length u) v = store-out (store m 0 u) (0 + length u) v f in
     take-all (length s) (store m 0 s) (omega (arith, length-store m 0 s)) ∙ sym (o ∙ a) ∙ store-over m u lu)

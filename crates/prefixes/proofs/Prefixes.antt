@@ -3,14 +3,15 @@
 use Prim.Native.Nat.{ℕ, zero, suc, _+_, _-_, _≤_, _<_}
 use mathlib.Core.Path.{_≡_, refl, sym, ap, subst, _∙_}
 use mathlib.Core.Bool.{Bool, true, false, not, _&&_}
-use mathlib.Core.List.{List, [], _∷_}
+use mathlib.Core.List.{List, []}
 use mathlib.Core.Logic.{_⊎_, inl, inr, ⊎-elim}
 use native.Mathlib.Omega.{arith}
 use lib.Dec.{eqb, ltb}
 use lib.ListN.{length, getD, take, drop, length-take, length-drop}
-use lib.Seq.{getD-take, take-nil}
+use lib.Seq.{getD-take}
 use borrow.Author.Tests.{eq-eqb, ne-eqb, eqb-true, eqb-false, lt-ltb, le-ltb, ltb-true, ltb-false}
 use Rattle.memory.specs.Memory.{word}
+use Rattle.memory.proofs.Parts.{drop-take}
 use Rattle.event.specs.Front.{front}
 use Rattle.event.specs.Sizes.{sizeOf, begins, within, sizeBy}
 use Rattle.event.specs.Walk.{walks, walk, counted, endingBy}
@@ -137,12 +138,6 @@ abbrev pub stray : Ending → Bool
 stray Whole = false
 stray Cut = false
 stray NoEvent = true
-
-pub drop-take : (n m : ℕ) (l : List ℕ) → drop n (take m l) ≡ take (m - n) (drop n l)
-drop-take zero m l = let e : m - 0 ≡ m = omega arith in rw e
-drop-take (suc n) zero l = let e : 0 - suc n ≡ 0 = omega arith in rw e
-drop-take (suc n) (suc m) [] = sym (take-nil (suc m - suc n))
-drop-take (suc n) (suc m) (x ∷ l) = let e : suc m - suc n ≡ m - n = omega arith in rw e (drop-take n m l)
 
 -- of no bytes nothing is stray
 none-stray : (g : ℕ) (s : List ℕ) → length s ≡ 0 → stray (counted (walks g s) .ending) ≡ false

@@ -1,59 +1,18 @@
 -- Blocks without a fault of their own: how long their used data is, and where each byte of it lies in the trace. Assumes nothing.
 use Prim.Native.Nat.{ℕ, zero, suc, _+_, _*_, _/_, _%_, _-_, _≤_, _<_}
 use mathlib.Core.Path.{_≡_, refl, sym, ap, _∙_}
-use mathlib.Core.Bool.{Bool, false, not, _&&_, _||_}
+use mathlib.Core.Bool.{false}
 use mathlib.Core.List.{List, _++_}
 use native.Mathlib.Omega.{arith}
 use lib.Dec.{eqb, ltb}
-use lib.ListN.{length, getD, take, drop, length-append, length-take, length-drop, List·getD-append}
+use lib.ListN.{length, getD, take, drop, length-append, List·getD-append}
 use lib.Seq.{take-all, take-append-le, getD-take, getD-drop, getD-append-add}
 use borrow.Author.Tests.{eqb-true, eqb-false, ne-eqb, ltb-true, ltb-false}
-use Rattle.rules.proofs.Choices.{by-bool, or-parts}
-use Rattle.block.specs.Fields.{blockNumber, usedLength, dataOf, usedData, storedCheck, checkOf}
-use Rattle.block.specs.Faults.{usedFault, blockFault}
+use Rattle.rules.proofs.Choices.{by-bool}
+use Rattle.block.specs.Fields.{usedLength, dataOf, usedData}
+use Rattle.block.proofs.Right.{Right, right, used-long}
 use Rattle.stream.specs.Blocks.{blockAt, blockCount, isLast, faultAt, Sound}
 use Rattle.stream.specs.Stream.{stream}
-
--- ---- a block by itself
-
--- a used length without a fault
-used-right : (last : Bool) (used : ℕ) → usedFault last used ≡ false → ((1 ≤ used) × (used ≤ 504)) × (last ≡ false → used ≡ 504)
-unfolding usedFault
-used-right last used e =
-    let p = or-parts (eqb used 0 || ltb 504 used) (not last && ltb used 504) e in
-    let q = or-parts (eqb used 0) (ltb 504 used) (p .0) in
-    let a = eqb-false used 0 (q .0) in
-    let b = ltb-false 504 used (q .1) in
-    ((omega arith, b), λ l. let c : ltb used 504 ≡ false = rw l at (p .1) in let d = ltb-false used 504 c in omega arith)
-
--- what a block without a fault is like
-pub record Right (last : Bool) (b : List ℕ) : Type 0 where
-  pub long : length b ≡ 512
-  pub some : 1 ≤ usedLength b
-  pub fits : usedLength b ≤ 504
-  pub full : last ≡ false → usedLength b ≡ 504
-
-right : (last : Bool) (k : ℕ) (b : List ℕ) → blockFault last k b ≡ 0 → Right last b
-unfolding blockFault
-right last k b e =
-    by-bool (eqb (length b) 512)
-    (λ t.
-    by-bool (eqb (blockNumber b) k)
-    (λ u.
-    by-bool (eqb (storedCheck b) (checkOf b))
-    (λ v.
-    by-bool (usedFault last (usedLength b)) (λ w. absurd (omega (arith, rw (t, u, v, w) at e)))
-    (λ w.
-    let r = used-right last (usedLength b) w in
-    record { long = eqb-true (length b) 512 t; some = r .0 .0; fits = r .0 .1; full = r .1 }))
-    (λ v. absurd (omega (arith, rw (t, u, v) at e))))
-    (λ u. absurd (omega (arith, rw (t, u) at e))))
-    (λ t. absurd (omega (arith, rw t at e)))
-
--- the length of the used data
-used-long : (b : List ℕ) → length b ≡ 512 → usedLength b ≤ 504 → length (usedData b) ≡ usedLength b
-unfolding usedData dataOf
-used-long b l h = simp (length-take, length-drop) (omega arith)
 
 -- ---- blocks one behind the other
 
@@ -65,7 +24,7 @@ module _ (t : List ℕ) where
   unfolding isLast
   not-last k h = ne-eqb (k + 1) count (λ q. omega arith)
 
-  pub right-at : (k : ℕ) → faultAt t k ≡ 0 → Right (isLast t k) (blockAt t k)
+  pub right-at : (k : ℕ) → faultAt t k ≡ 0 → Right (isLast t k) k (blockAt t k)
   unfolding faultAt
   right-at k e = right (isLast t k) k (blockAt t k) e
 

@@ -1,19 +1,17 @@
 -- Laws of text: the ways out of `put`, and that one text behind another is one text. Assumes nothing.
 use mathlib.Core.Path.{_≡_, refl, sym, ap, _∙_}
 use mathlib.Core.Bool.{Bool, true, false}
-use mathlib.Core.List.{List, [], _∷_, _++_}
+use mathlib.Core.List.{List, [], _++_}
 use Prim.Native.Nat.{ℕ, zero, suc, _+_, _-_, _≤_, _<_, min}
-use native.Mathlib.Nat.{add-zero, add-suc, suc-add}
 use native.Mathlib.Omega.{arith}
 use borrow.Author.Tests.{le-leb, lt-leb, leb-true, leb-false}
 use lib.Dec.{leb}
-use lib.ListN.{length, set, length-append}
-use lib.Seq.{sets}
+use lib.ListN.{length, length-append}
 use Rattle.rules.specs.Choice.{if_then_else_}
 use Rattle.rules.proofs.Choices.{by-bool}
 use Rattle.memory.specs.Memory.{store}
 use Rattle.memory.proofs.Laws.{store-out}
-use Rattle.memory.proofs.Stores.{length-store}
+use Rattle.memory.proofs.Stores.{length-store, store-append}
 use Rattle.text.specs.Text.{Text, written, endOf, put}
 
 -- ---- where text ends
@@ -50,26 +48,18 @@ pub ruleset ways = (put-past, put-short, put-fits)
 
 -- ---- one text behind another
 
-sets-append : (a b t : List ℕ) (at : ℕ) → sets (sets t at a) (at + length a) b ≡ sets t at (a ++ b)
-sets-append [] b t at = rw add-zero
-sets-append (x ∷ a) b t at = rw (add-suc at (length a), ← suc-add at (length a)) (sets-append a b (set t at x) (suc at))
-
-pub store-append : (a b t : List ℕ) (at : ℕ) → store (store t at a) (at + length a) b ≡ store t at (a ++ b)
-unfolding store
-store-append a b t at = sets-append a b t at
-
 -- where the second begins it is stored whether the first had room or not
 behind : (a b t : List ℕ) (at : ℕ) → store (store t at a) (endOf (length t) at (length a)) b ≡ store t at (a ++ b)
 unfolding endOf
 behind a b t at =
     by-bool (leb (at + length a) (length t))
-    (λ e. rw e (store-append a b t at))
+    (λ e. rw e (store-append t at (at + length a) a b refl))
     (λ e.
     let l : length t < at + length a = leb-false (at + length a) (length t) e in
     rw e
     (sym (store-out (store t at a) (length t) b (omega (arith, length-store t at a)))
     ∙ store-out (store t at a) (at + length a) b (omega (arith, length-store t at a))
-    ∙ store-append a b t at))
+    ∙ store-append t at (at + length a) a b refl))
 
 end-room : (room k : ℕ) → (if leb (room + k) room then room + k else room) ≡ room
 end-room room zero = by-bool (leb (room + 0) room) (λ e. rw e (omega arith)) (λ e. rw e)

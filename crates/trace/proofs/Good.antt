@@ -6,8 +6,8 @@ use mathlib.Core.List.{List}
 use native.Mathlib.Omega.{arith}
 use lib.Dec.{eqb, ltb}
 use lib.ListN.{length}
-use borrow.Author.Tests.{eq-eqb, eqb-true, eqb-false, ltb-false, not-false}
-use Rattle.rules.proofs.Choices.{by-bool, or-parts}
+use borrow.Author.Tests.{eq-eqb, eqb-true, eqb-false, ltb-false, le-ltb, not-false}
+use Rattle.rules.proofs.Choices.{by-bool, or-parts, passed, neither}
 use Rattle.window.specs.Window.{windowAllowed}
 use Rattle.event.specs.Walk.{walk}
 use Rattle.event.specs.declared.Ending.{Ending}
@@ -31,6 +31,11 @@ look-given t room e =
     (λ v. (eqb-true (firstBad t .number) 0 u, (rw (u, v), ltb-false room (length (eventBytes t)) v))))
     (λ u. absurd (eqb-false (firstBad t .number) 0 u (rw u at e)))
 
+-- the other way round
+pub look-gives : (t : List ℕ) (room : ℕ) → firstBad t .number ≡ 0 → length (eventBytes t) ≤ room → look t room ≡ given t
+unfolding look
+look-gives t room good fits = rw (eq-eqb (firstBad t .number) 0 good, le-ltb room (length (eventBytes t)) fits)
+
 -- ---- the search for a bad block
 
 none-found : (t : List ℕ) (n k j : ℕ) → judge t k n .number ≡ 0 → j < n → reason t (k + j) ≡ 0
@@ -48,10 +53,8 @@ none-found t (suc n) k (suc j) e l =
 no-reason : (t : List ℕ) (k : ℕ) → reason t k ≡ 0 → (faultAt t k ≡ 0) × (eventFault (isLast t k) (stream t (k + 1)) ≡ false)
 unfolding reason
 no-reason t k e =
-    by-bool (eqb (faultAt t k) 0)
-    (λ u.
-    (eqb-true (faultAt t k) 0 u, by-bool (eventFault (isLast t k) (stream t (k + 1))) (λ v. absurd (omega (arith, rw (u, v) at e))) (λ v. v)))
-    (λ u. absurd (eqb-false (faultAt t k) 0 u (rw u at e)))
+    let p = neither (faultAt t k) _ e in
+    (p .0, passed (eventFault (isLast t k) (stream t (k + 1))) 22 0 (omega arith) (p .1) .0)
 
 whole-end : (e : Ending) → endingFault true e ≡ false → e ≡ Whole
 whole-end Whole h = refl

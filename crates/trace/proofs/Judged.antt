@@ -12,12 +12,13 @@ use lib.Seq.{getD-take}
 use borrow.Author.Tests.{eqb-true, eqb-false, eq-eqb, ne-eqb, ltb-true, ltb-false, lt-ltb, le-ltb}
 use Rattle.rules.specs.Choice.{if_then_else_}
 use Rattle.memory.specs.Memory.{word}
+use Rattle.memory.proofs.Parts.{drop-take}
 use Rattle.block.specs.Fields.{half}
 use Rattle.event.specs.Walk.{walk, counted}
 use Rattle.event.specs.declared.Ending.{Ending}
 use Rattle.event.specs.declared.Ending.the-variants.{Whole, Cut, NoEvent}
 use Rattle.rules.proofs.Choices.{by-bool}
-use Rattle.prefixes.proofs.Prefixes.{stray, drop-take, cut-short}
+use Rattle.prefixes.proofs.Prefixes.{stray, cut-short}
 use Rattle.stream.specs.Blocks.{blockCount, isLast, faultAt, Sound}
 use Rattle.stream.specs.Stream.{stream, baseOf, windowOf, eventsOf}
 use Rattle.stream.proofs.Sound.{not-last, length-within, front-of}

@@ -27,6 +27,7 @@ use Rattle.trace.specs.declared.Found.{Found}
 use Rattle.trace.specs.Judge.{headerFault, firstBad}
 use Rattle.trace.specs.Passes.{verdict, eventsFault}
 use Rattle.trace.specs.Reading.{refused, look, readingOf, read}
+use Rattle.trace.proofs.Good.{look-gives}
 use Rattle.trace.proofs.Judged.{bad-first, bad-header, bad-byte, bad-block, bad-end, all-good}
 
 -- ---- the first pass
@@ -177,19 +178,17 @@ module _ (t : List ℕ) (room : ℕ) where
 
           pub look-good : end - 6 ≤ room → (base window : ℕ) → base ≡ word t 4 → window ≡ half t 8 + 1
               → _≡_ {A = Found} (record { number = 0; block = 0; base = base; window = window; bytes = end - 6; events = w .events }) (look t room)
-          unfolding look eventBytes
+          unfolding eventBytes
           look-good s base window x y =
               let u = tested t f e in
               let long = header-long (stream t (f .block)) (sym a ∙ b) in
-              let z : end - 6 ≡ length (eventsOf (stream t (f .block))) = rw l (sym (length-drop 6 (stream t (f .block)))) in
-              let m : ltb room (length (eventsOf (stream t (f .block)))) ≡ false = le-ltb room (length (eventsOf (stream t (f .block)))) (omega arith) in
+              let z = bytes-there in
               rw (
-                eq-eqb (firstBad t .number) 0 none-bad,
-                ← all-tested,
-                m,
+                look-gives t room none-bad (omega arith),
                 x,
                 y,
                 z,
+                ← all-tested,
                 c,
                 base-there t (f .block) (u .sound) (u .most) long,
                 window-there t (f .block) (u .sound) (u .most) long,

@@ -6,7 +6,7 @@ use mathlib.Core.List.{List}
 use native.Mathlib.Omega.{arith}
 use lib.Dec.{eqb}
 use lib.ListN.{length, take}
-use borrow.Author.Tests.{le-ltb, eqb-true}
+use borrow.Author.Tests.{eqb-true}
 use Rattle.rules.proofs.Choices.{by-bool}
 use Rattle.memory.specs.Memory.{store}
 use Rattle.memory.proofs.Stores.{part-back}
@@ -18,6 +18,7 @@ use Rattle.stream.specs.Stream.{stream, eventsOf, eventBytes}
 use Rattle.trace.specs.Judge.{headerFault, firstBad}
 use Rattle.trace.specs.Reading.{given, look, readingOf, read}
 use Rattle.trace.specs.Passes.{verdict}
+use Rattle.trace.proofs.Good.{look-gives}
 use Rattle.trace.proofs.Judged.{all-good}
 use Rattle.trace_writing.specs.Made.{streamOf, blocksFor, blocksOf, traceOf}
 use Rattle.trace_writing.specs.Writing.{isWhole, needed, writeNumber, writingOf, write}
@@ -33,11 +34,6 @@ whole-is Cut h = absurd (false≢true h)
 whole-is NoEvent h = absurd (false≢true h)
 
 -- ---- the trace
-
--- with room for its events
-pub look-good : (t : List ℕ) (room : ℕ) → firstBad t ≡ verdict 0 0 → length (eventBytes t) ≤ room → look t room ≡ given t
-unfolding look
-look-good t room good h = rw (good, le-ltb room (length (eventBytes t)) h)
 
 module _ (base window : ℕ) (events : List ℕ) (room : ℕ) (can : Allowed base window events room) where
   abbrev t : List ℕ
@@ -94,7 +90,7 @@ module _ (base window : ℕ) (events : List ℕ) (room : ℕ) (can : Allowed bas
       rw (event-bytes, count, all, base-made base window events f, window-made base window events f)
 
   found : (into : ℕ) → length events ≤ into → look t into ≡ same base window events
-  found into h = look-good t into good (rw event-bytes h) ∙ given-is
+  found into h = look-gives t into (rw good) (rw event-bytes h) ∙ given-is
 
   reads : (into : List ℕ) → length events ≤ length into → read t into ≡ readingOf (same base window events) (store into 0 events)
   unfolding read

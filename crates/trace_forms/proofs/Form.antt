@@ -8,9 +8,9 @@ use lib.ListN.{length, take, drop, length-take, length-drop}
 use lib.Seq.{take-all, take-add, drop-at}
 use borrow.Author.Tests.{eqb-true, ltb-true, ltb-false, le-ltb}
 use Rattle.rules.proofs.Choices.{by-bool}
+use Rattle.memory.proofs.Parts.{drop-take}
 use Rattle.block.specs.Fields.{usedData}
 use Rattle.block.specs.Made.{blockOf}
-use Rattle.block.proofs.Parts.{drop-take}
 use Rattle.block_forms.specs.Forms as blocks
 use Rattle.block_forms.specs.Forms.{Bytes}
 use Rattle.block_forms.proofs.One as one

@@ -1,6 +1,6 @@
 -- The ways out of writing: what a number of 0 says, and what is left of the room. Assumes nothing.
 use Prim.Native.Nat.{ℕ, _+_, _*_, _≤_, _<_}
-use mathlib.Core.Path.{_≡_, refl, sym, ap, _∙_}
+use mathlib.Core.Path.{_≡_, sym, ap, _∙_}
 use mathlib.Core.Bool.{Bool, true, false, not, false≢true}
 use mathlib.Core.List.{List}
 use native.Mathlib.Omega.{arith}
@@ -8,7 +8,7 @@ use lib.Dec.{ltb, leb}
 use lib.ListN.{length}
 use borrow.Author.Tests.{ne-eqb, lt-ltb, le-ltb, ltb-false, leb-true, not-false}
 use Rattle.rules.specs.Choice.{if_then_else_}
-use Rattle.rules.proofs.Choices.{by-bool, said-yes, said-no}
+use Rattle.rules.proofs.Choices.{by-bool, said-yes, said-no, passed}
 use Rattle.memory.specs.Memory.{store}
 use Rattle.window.specs.Window.{windowAllowed}
 use Rattle.event.specs.Walk.{walk, counted}
@@ -50,11 +50,6 @@ module _ (base window : ℕ) (s : List ℕ) (room : ℕ) (w : Walked) (b : Bool)
 pub ruleset numbers = (bad-list, bad-window, many-blocks, little-room, no-refusal)
 
 -- ---- what a number of 0 says
-
--- a chain of tests that gives 0: the first failed, and the rest gives 0
-passed : (t : Bool) (n x : ℕ) → 0 < n → (if t then n else x) ≡ 0 → (t ≡ false) × (x ≡ 0)
-passed true n x h e = absurd (omega arith)
-passed false n x h e = (refl, e)
 
 -- what is not refused
 pub record Allowed (base window : ℕ) (events : List ℕ) (room : ℕ) : Type 0 where

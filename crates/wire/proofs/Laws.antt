@@ -1,17 +1,16 @@
 -- What `put_wire` leaves, from what its calls leave; and the length of a frame out. Assumes nothing.
 use mathlib.Core.Path.{_≡_, refl, sym, ap, _∙_}
 use mathlib.Core.Bool.{Bool, true, false, not}
-use mathlib.Core.List.{List, [], _∷_, _++_}
+use mathlib.Core.List.{List, _∷_, _++_}
 use Prim.Native.Nat.{ℕ, zero, suc, _+_, _-_, _≤_, _<_}
-use native.Mathlib.Nat.{add-zero, zero-add}
 use native.Mathlib.Omega.{arith}
 use borrow.Author.Tests.{leb-true, lt-ltb, le-ltb, le-leb, lt-leb}
 use lib.Dec.{leb, ltb}
-use lib.ListN.{length, take, drop, set, replicate, length-append, length-replicate}
-use lib.Seq.{sets, sets-eq, take-at}
+use lib.ListN.{length, take, drop, replicate, length-append, length-replicate}
+use lib.Seq.{sets-eq}
 use Rattle.rules.proofs.Choices.{said-yes, said-no, and-parts, is-and, is-and-no, is-or, is-or-yes}
 use Rattle.memory.specs.Memory.{store}
-use Rattle.memory.proofs.Stores.{length-store}
+use Rattle.memory.proofs.Stores.{length-store, part-back, store-append}
 use Rattle.fcs.specs.CheckSequence.{checkSequence, closed}
 use Rattle.fcs.proofs.Meaning.{length-sequence}
 use Rattle.wire.specs.Wire.{sendLengthWrong, padded, wire, wireFits, wirePut, wireCount}
@@ -64,19 +63,8 @@ wire-bounds p high = rw (length-wire p) (omega arith, omega arith)
 
 -- ---- stores one behind the other
 
-sets-append : (s m : List ℕ) (at : ℕ) (t : List ℕ) → sets (sets m at s) (at + length s) t ≡ sets m at (s ++ t)
-sets-append [] m at t = rw add-zero
-sets-append (x ∷ s) m at t =
-    let e : at + suc (length s) ≡ suc at + length s = omega arith in rw e (sets-append s (set m at x) (suc at) t)
-
--- a store at the front and one right behind it are one
-front-append : (s m t : List ℕ) (n : ℕ) → n ≡ length s → store (store m 0 s) n t ≡ store m 0 (s ++ t)
-unfolding store
-front-append s m t n e = rw (e, ← zero-add (length s)) (sets-append s m 0 t)
-
 take-front : (s m : List ℕ) (n : ℕ) → n ≡ length s → length s ≤ length m → take n (store m 0 s) ≡ s
-unfolding store
-take-front s m n e h = rw (sets-eq s m 0 (omega arith)) (take-at s (drop (0 + length s) m) n (sym e))
+take-front s m n e h = rw e (part-back m 0 s (omega arith))
 
 store-eq : (v l : List ℕ) (i k : ℕ) → length v ≡ k → i + k ≤ length l → store l i v ≡ take i l ++ v ++ drop (i + k) l
 unfolding store
@@ -90,7 +78,7 @@ close-front s m k e h =
     rw (le-leb (k + 4) (length (store m 0 s)) l) (
     sym (store-eq (checkSequence (take k (store m 0 s))) (store m 0 s) k 4 (length-sequence (take k (store m 0 s))) l)
     ∙ ap (λ (x : List ℕ). store (store m 0 s) k (checkSequence x)) (take-front s m k e (omega arith))
-    ∙ front-append s m (checkSequence s) k e)
+    ∙ store-append m 0 k s (checkSequence s) (omega arith))
 
 -- ---- the ways out
 
@@ -138,5 +126,5 @@ all-put out p r o₁ o₂ o₃ k e h e₁ e₂ ek e₃ =
     let f₀ = f .0 in
     let f₁ = f .1 in
     let z = replicate {A = ℕ} (60 - length p) 0 in
-    let a : o₂ ≡ store out 0 (padded p) = e₂ ∙ rw e₁ (front-append p out z (length p) refl) ∙ ap (store out 0) (sym (padded-is p)) in
+    let a : o₂ ≡ store out 0 (padded p) = e₂ ∙ rw e₁ (store-append out 0 (length p) p z (omega arith)) ∙ ap (store out 0) (sym (padded-is p)) in
     rw (y, e₃, a) (close-front (padded p) out k (ek ∙ sym (length-padded p)) (omega arith) ∙ ap (store out 0) (sym (wire-is p)))
