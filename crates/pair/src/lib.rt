@@ -29,8 +29,8 @@ fn received(device: Enet, memory: &mut [u8], store: &[u8], start: u32, length: u
     device.receive(memory, memory::part(store, at, n))
 }
 
-// An answer in its place.
-fn put_answer(answers: &mut [u32], i: usize, number: u32)
+// An answer in its place; one past the list's end is left out.
+pub fn put_answer(answers: &mut [u32], i: usize, number: u32)
     ensures { λ _. ⌜ now (answers .exit) ≡ set (now (answers .entry)) i number ⌝ }
 {
     if i < answers.len() {

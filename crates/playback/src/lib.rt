@@ -1,7 +1,7 @@
 // The events of a recorded day as calls on a bench, one behind the other (02, Wish 4). A frame is lent from where it lies in the
 // list of bytes, so no event is copied.
 ghost use mathlib.Core.Path.{_≡_};
-ghost use lib.ListN.{set, drop};
+ghost use lib.ListN.{drop};
 ghost use Rattle.event.specs.Front.{front, found};
 ghost use Rattle.playback.specs.Playing.{benchOf, acting, actAs, played, playInto};
 ghost use Rattle.playback.specs.Turns.{turn};
@@ -64,15 +64,6 @@ pub fn act(device: Enet, memory: &mut [u8], output: &mut [u8], list: &[u8], foun
     }
 }
 
-// An answer in its place.
-fn put_answer(answers: &mut [u32], i: usize, number: u32)
-    ensures { λ _. ⌜ now (answers .exit) ≡ set (now (answers .entry)) i number ⌝ }
-{
-    if i < answers.len() {
-        answers[i] = number;
-    }
-}
-
 // What stands at a place of the list, as a call, and its answer at place i. The loop below only goes from place to place.
 fn turn(
     device: Enet,
@@ -86,7 +77,7 @@ fn turn(
     ensures { λ r. ⌜ played r (now (memory .exit)) (now (output .exit)) (now (answers .exit)) ≡ turn (played device (now (memory .entry)) (now (output .entry)) (now (answers .entry))) i (now (list .entry)) (found place (front (drop place (now (list .entry))))) ⌝ }
 {
     let a = act(device, memory, output, list, event::at(list, place));
-    put_answer(answers, i, a.number);
+    pair::put_answer(answers, i, a.number);
     a.device
 }
 
