@@ -1,1 +1,2 @@
 pub mod DayProof
+pub mod ReplayedProof

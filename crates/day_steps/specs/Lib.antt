@@ -1,1 +1,2 @@
 pub mod DaySteps
+pub mod Replayed

@@ -1,1 +1,1 @@
-// A replayed day as a list of steps, over which demand 3 is stated: specs/. No code.
+// A replayed day beside direct calls, and as a list of steps, over which demand 3 is stated: specs/. No code.
