@@ -23,5 +23,6 @@ eventSays (RegisterWrite offset v) n sent = numbered (characters "write") n
 eventSays (Grant address) n sent = numbered (characters "grant") n
 eventSays (Frame start k) n sent = numbered (characters "frame") n
 eventSays Send n sent = shown (characters "send") n sent
+-- these are no events, and have no line: a trace that is read has none of them (`all-events` in `day_steps`)
 eventSays Cut n sent = []
 eventSays NoEvent n sent = []

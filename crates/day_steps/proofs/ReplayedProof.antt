@@ -15,7 +15,7 @@ use Rattle.memory.proofs.Stores.{part-back}
 use Rattle.event.specs.Event.{Event}
 use Rattle.event.specs.Walk.{walk}
 use Rattle.stream.specs.Stream.{eventBytes}
-use Rattle.trace.specs.declared.Found.{Found}
+use Rattle.trace.specs.declared.Summary.{Summary}
 use Rattle.trace.specs.Reading.{look}
 use Rattle.trace.proofs.Good.{look-given, header-right, events-whole}
 use Rattle.enet.specs.Device.{new}
@@ -72,7 +72,7 @@ module _ (t room m o a : List ℕ) (done : replay t room m o a .replayed .number
   -- an answer for each event
   counted : look t (length room) .events ≡ length (d .answers)
   counted =
-      ap (λ (x : Found). x .events) (look-given t (length room) (was-read .0) .1 .0)
+      ap (λ (x : Summary). x .events) (look-given t (length room) (was-read .0) .1 .0)
       ∙ sym (length-play (walk (eventBytes t) .events) (benchFor t (length room) m) o)
 
   fits : length (d .answers) ≤ length a

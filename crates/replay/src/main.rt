@@ -65,15 +65,21 @@ fn first(events: &[u8; EVENTS], n: usize) -> &[u8] {
 
 // Replays a trace, or says why not.
 fn replay(trace: &[u8], memory: &mut [u8; MEMORY], lent: usize) {
-    let found = trace::look(trace, EVENTS);
-    if found.number != answer::DONE {
-        showing::refused(found.number, found.block);
+    let summary = trace::look(trace, EVENTS);
+    if summary.number != answer::DONE {
+        showing::refused(summary.number, summary.block);
         return;
     }
     let mut events = [0u8; EVENTS];
     copy(trace, &mut events);
-    let n = found.bytes;
-    showing::whole_day(found.base, found.window, first(&events, n), memory, lent);
+    let n = summary.bytes;
+    showing::whole_day(
+        summary.base,
+        summary.window,
+        first(&events, n),
+        memory,
+        lent,
+    );
 }
 
 // The same for what was read of a file, where that is all of it.

@@ -9,7 +9,7 @@ use Rattle.rules.proofs.Choices.{if-yes, if-no}
 use Rattle.memory.specs.Memory.{store}
 use Rattle.memory.proofs.Stores.{part-back}
 use Rattle.stream.specs.Stream.{eventBytes}
-use Rattle.trace.specs.declared.Found.{Found}
+use Rattle.trace.specs.declared.Summary.{Summary}
 use Rattle.trace.specs.Reading.{look}
 use Rattle.trace.proofs.Good.{look-given}
 use Rattle.enet.specs.declared.Enet.{Enet}
@@ -43,7 +43,7 @@ module _ (t : List ℕ) (room answers : ℕ) where
 
 -- ---- the ways out
 
-module _ (t room m out a : List ℕ) (f : Found) (look-is : f ≡ look t (length room)) where
+module _ (t room m out a : List ℕ) (f : Summary) (look-is : f ≡ look t (length room)) where
   -- refused as reading is
   pub replay-unread : (r : Replayed) → (f .number ≡ 0 → ⊥) → r ≡ refusal (f .number) (f .block) → replaying r room m out a ≡ replay t room m out a
   unfolding replay
@@ -65,14 +65,14 @@ module _ (t room m out a : List ℕ) (f : Found) (look-is : f ≡ look t (length
       → replaying (record { number = 0; block = 0; bytes = f .bytes; events = f .events; device = d }) room′ m′ out′ a′ ≡ replay t room m out a
   unfolding replay playInto
   replay-done room′ list m′ out′ a′ n d h l r b s p =
-      let found = look t (length room) in
-      let g : found .number ≡ 0 = rw look-is at h in
-      let k : found .events ≤ length a = rw look-is at l in
+      let summary = look t (length room) in
+      let g : summary .number ≡ 0 = rw look-is at h in
+      let k : summary .events ≤ length a = rw look-is at l in
       let read = look-given t (length room) g .1 in
       let fits = read .1 in
-      let all : found .bytes ≡ length (eventBytes t) = ap (λ (x : Found). x .bytes) (read .0) in
+      let all : summary .bytes ≡ length (eventBytes t) = ap (λ (x : Summary). x .bytes) (read .0) in
       let back : take (length (eventBytes t)) (store room 0 (eventBytes t)) ≡ eventBytes t = part-back room 0 (eventBytes t) (omega arith) in
       let events : list ≡ eventBytes t = s ∙ rw (look-is, all, r) back in
-      let q : playedOf d m′ out′ a′ ≡ playInto a (benchOf (new (found .base) (found .window) .device) m) out (eventBytes t) = rw (b, look-is, events) at p in
+      let q : playedOf d m′ out′ a′ ≡ playInto a (benchOf (new (summary .base) (summary .window) .device) m) out (eventBytes t) = rw (b, look-is, events) at p in
       rw (look-is, ← number-done t (length room) (length a) g k)
-      (λ j. replaying (record { number = 0; block = 0; bytes = found .bytes; events = found .events; device = q j .bench .device }) (r j) (q j .bench .memory) (q j .output) (q j .answers))
+      (λ j. replaying (record { number = 0; block = 0; bytes = summary .bytes; events = summary .events; device = q j .bench .device }) (r j) (q j .bench .memory) (q j .output) (q j .answers))

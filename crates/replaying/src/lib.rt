@@ -37,22 +37,22 @@ pub fn replay(
 ) -> Replayed
     ensures { λ r. ⌜ replaying r (now (room .exit)) (now (memory .exit)) (now (output .exit)) (now (answers .exit)) ≡ replay (now (trace .entry)) (now (room .entry)) (now (memory .entry)) (now (output .entry)) (now (answers .entry)) ⌝ }
 {
-    let found = trace::look(trace, room.len());
-    if found.number != answer::DONE {
-        return refused(found.number, found.block);
+    let summary = trace::look(trace, room.len());
+    if summary.number != answer::DONE {
+        return refused(summary.number, summary.block);
     }
-    if answers.len() < found.events {
-        return refused(answer::ANSWERS_SHORT, found.block);
+    if answers.len() < summary.events {
+        return refused(answer::ANSWERS_SHORT, summary.block);
     }
     stream::copy(trace, room);
-    let new = Enet::new(found.base, found.window);
-    let events = memory::part(room, 0, found.bytes);
+    let new = Enet::new(summary.base, summary.window);
+    let events = memory::part(room, 0, summary.bytes);
     let device = playback::play(new.device, memory, output, events, answers);
     Replayed {
         number: answer::DONE,
         block: 0,
-        bytes: found.bytes,
-        events: found.events,
+        bytes: summary.bytes,
+        events: summary.events,
         device,
     }
 }

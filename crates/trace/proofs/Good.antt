@@ -15,7 +15,7 @@ use Rattle.event.specs.declared.Ending.the-variants.{Whole, Cut, NoEvent}
 use Rattle.stream.specs.Blocks.{blockCount, isLast, faultAt, Sound}
 use Rattle.stream.specs.Stream.{stream, baseOf, windowOf, eventsOf, eventBytes}
 use Rattle.stream.proofs.Laws.{count-least}
-use Rattle.trace.specs.Judge.{headerFault, endingFault, eventFault, reason, judge, firstBad}
+use Rattle.trace.specs.Judge.{headerFault, endingFault, eventFault, reason, firstBadFrom, firstBad}
 use Rattle.trace.specs.Reading.{given, look}
 
 -- ---- reading without a refusal
@@ -38,8 +38,8 @@ look-gives t room good fits = rw (eq-eqb (firstBad t .number) 0 good, le-ltb roo
 
 -- ---- the search for a bad block
 
-none-found : (t : List ℕ) (n k j : ℕ) → judge t k n .number ≡ 0 → j < n → reason t (k + j) ≡ 0
-unfolding judge
+none-found : (t : List ℕ) (n k j : ℕ) → firstBadFrom t k n .number ≡ 0 → j < n → reason t (k + j) ≡ 0
+unfolding firstBadFrom
 none-found t zero k j e l = absurd (omega arith)
 none-found t (suc n) k zero e l =
     let z : k + 0 ≡ k = omega arith in

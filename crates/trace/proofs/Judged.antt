@@ -23,35 +23,35 @@ use Rattle.stream.specs.Blocks.{blockCount, isLast, faultAt, Sound}
 use Rattle.stream.specs.Stream.{stream, baseOf, windowOf, eventsOf}
 use Rattle.stream.proofs.Sound.{not-last, length-within, front-of}
 use Rattle.trace.specs.Passes.{verdict}
-use Rattle.trace.specs.Judge.{headerFault, endingFault, eventFault, reason, judge, firstBad}
+use Rattle.trace.specs.Judge.{headerFault, endingFault, eventFault, reason, firstBadFrom, firstBad}
 
 -- ---- what the search for a bad block finds
 
 module _ (t : List ℕ) where
-  pub judge-at : (n k b : ℕ) → ((j : ℕ) → j < b → reason t (k + j) ≡ 0) → b < n → (reason t (k + b) ≡ 0 → ⊥)
-      → judge t k n ≡ verdict (reason t (k + b)) (k + b)
-  unfolding judge
-  judge-at zero k b good l bad = absurd (omega arith)
-  judge-at (suc n) k zero good l bad =
+  first-bad-from : (n k b : ℕ) → ((j : ℕ) → j < b → reason t (k + j) ≡ 0) → b < n → (reason t (k + b) ≡ 0 → ⊥)
+      → firstBadFrom t k n ≡ verdict (reason t (k + b)) (k + b)
+  unfolding firstBadFrom
+  first-bad-from zero k b good l bad = absurd (omega arith)
+  first-bad-from (suc n) k zero good l bad =
       let e : k + 0 ≡ k = omega arith in
       let z : reason t k ≡ 0 → ⊥ = rw e at bad in
       rw (ne-eqb (reason t k) 0 z, e)
-  judge-at (suc n) k (suc b) good l bad =
+  first-bad-from (suc n) k (suc b) good l bad =
       let e : k + 0 ≡ k = omega arith in
       let z : reason t k ≡ 0 = rw e at (good 0 (omega arith)) in
       let f : k + suc b ≡ k + 1 + b = omega arith in
       rw (eq-eqb (reason t k) 0 z, f)
-      (judge-at n (k + 1) b
+      (first-bad-from n (k + 1) b
       (λ j m. let g : k + 1 + j ≡ k + suc j = omega arith in rw g (good (suc j) (omega arith))) (omega arith) (rw f at bad))
 
-  pub judge-none : (n k : ℕ) → ((j : ℕ) → j < n → reason t (k + j) ≡ 0) → judge t k n ≡ verdict 0 0
-  unfolding judge
-  judge-none zero k good = refl
-  judge-none (suc n) k good =
+  none-bad-from : (n k : ℕ) → ((j : ℕ) → j < n → reason t (k + j) ≡ 0) → firstBadFrom t k n ≡ verdict 0 0
+  unfolding firstBadFrom
+  none-bad-from zero k good = refl
+  none-bad-from (suc n) k good =
       let e : k + 0 ≡ k = omega arith in
       let z : reason t k ≡ 0 = rw e at (good 0 (omega arith)) in
       rw (eq-eqb (reason t k) 0 z)
-      (judge-none n (k + 1) (λ j m. let g : k + 1 + j ≡ k + suc j = omega arith in rw g (good (suc j) (omega arith))))
+      (none-bad-from n (k + 1) (λ j m. let g : k + 1 + j ≡ k + suc j = omega arith in rw g (good (suc j) (omega arith))))
 
   abbrev count : ℕ
   count = blockCount (length t)
@@ -61,11 +61,11 @@ module _ (t : List ℕ) where
   first-bad b good l bad =
       let z : (j : ℕ) → 0 + j ≡ j = λ j. omega arith in
       let e = z b in
-      rw (← e) (judge-at count 0 b (λ j m. rw (z j) (good j m)) l (rw e bad))
+      rw (← e) (first-bad-from count 0 b (λ j m. rw (z j) (good j m)) l (rw e bad))
 
   none-bad : ((j : ℕ) → j < count → reason t j ≡ 0) → firstBad t ≡ verdict 0 0
   unfolding firstBad
-  none-bad good = judge-none count 0 (λ j m. let z : 0 + j ≡ j = omega arith in rw z (good j m))
+  none-bad good = none-bad-from count 0 (λ j m. let z : 0 + j ≡ j = omega arith in rw z (good j m))
 
 -- bad by the fault of block 0 by itself
 pub bad-first : (t : List ℕ) (n : ℕ) → 0 < blockCount (length t) → n ≡ faultAt t 0 → (n ≡ 0 → ⊥) → firstBad t ≡ verdict n 0

@@ -23,7 +23,7 @@ use Rattle.stream.specs.Blocks.{blockCount, faultAt, firstFault, Sound}
 use Rattle.stream.specs.Stream.{stream, baseOf, windowOf, eventsOf, eventBytes}
 use Rattle.stream.proofs.Sound.{length-within, byte-at}
 use Rattle.stream.proofs.Laws.{count-least, count-most}
-use Rattle.trace.specs.declared.Found.{Found}
+use Rattle.trace.specs.declared.Summary.{Summary}
 use Rattle.trace.specs.Judge.{headerFault, firstBad}
 use Rattle.trace.specs.Passes.{verdict, eventsFault}
 use Rattle.trace.specs.Reading.{refused, look, readingOf, read}
@@ -136,7 +136,7 @@ module _ (t : List ℕ) (room : ℕ) where
   say-bad n b e h = rw e (rw (ne-eqb n 0 h))
 
   module _ (f : Fault) (e : f ≡ firstFault t 0 (blockCount (length t))) where
-    pub look-first : f .block ≡ 0 → (r : Found) → r ≡ refused (f .number) 0 → r ≡ look t room
+    pub look-first : f .block ≡ 0 → (r : Summary) → r ≡ refused (f .number) 0 → r ≡ look t room
     look-first z r q =
         let u = tested t f e in
         let some = count-least (length t) in
@@ -145,7 +145,7 @@ module _ (t : List ℕ) (room : ℕ) where
         q ∙ say-bad (f .number) 0 (bad-first t (f .number) (omega arith) b h) h
 
     module _ (some : f .block ≡ 0 → ⊥) where
-      pub look-header : (h : Bool) → h ≡ headerFault (stream t (f .block)) → h ≡ true → (r : Found) → r ≡ refused 22 0 → r ≡ look t room
+      pub look-header : (h : Bool) → h ≡ headerFault (stream t (f .block)) → h ≡ true → (r : Summary) → r ≡ refused 22 0 → r ≡ look t room
       look-header h a b r q =
           let u = tested t f e in
           q ∙ say-bad 22 0 (bad-header t (f .block) (u .sound) (u .most) (omega arith) (sym a ∙ b)) (λ y. absurd (omega arith))
@@ -155,7 +155,7 @@ module _ (t : List ℕ) (room : ℕ) where
         judged : firstBad t ≡ bad
         judged = by-ending t f (tested t f e) (omega arith) (sym a ∙ b) (walk (eventsOf (stream t (f .block))) .ending) refl ∙ sym (d ∙ rw c)
 
-        pub look-events : (bad .number ≡ 0 → ⊥) → (r : Found) → r ≡ refused (bad .number) (bad .block) → r ≡ look t room
+        pub look-events : (bad .number ≡ 0 → ⊥) → (r : Summary) → r ≡ refused (bad .number) (bad .block) → r ≡ look t room
         look-events n r q = q ∙ say-bad (bad .number) (bad .block) judged n
 
         module _ (n : bad .number ≡ 0) (end : ℕ) (l : end ≡ length (stream t (f .block))) where
@@ -170,14 +170,14 @@ module _ (t : List ℕ) (room : ℕ) where
           none-bad : firstBad t .number ≡ 0
           none-bad = ap (λ (x : Fault). x .number) judged ∙ n
 
-          pub look-room : room < end - 6 → (r : Found) → r ≡ refused 23 0 → r ≡ look t room
+          pub look-room : room < end - 6 → (r : Summary) → r ≡ refused 23 0 → r ≡ look t room
           unfolding look
           look-room s r q =
               let y = bytes-there in
               q ∙ rw (eq-eqb (firstBad t .number) 0 none-bad, lt-ltb room (length (eventBytes t)) (omega arith))
 
           pub look-good : end - 6 ≤ room → (base window : ℕ) → base ≡ word t 4 → window ≡ half t 8 + 1
-              → _≡_ {A = Found} (record { number = 0; block = 0; base = base; window = window; bytes = end - 6; events = w .events }) (look t room)
+              → _≡_ {A = Summary} (record { number = 0; block = 0; base = base; window = window; bytes = end - 6; events = w .events }) (look t room)
           unfolding eventBytes
           look-good s base window x y =
               let u = tested t f e in
@@ -212,7 +212,7 @@ module _ (t : List ℕ) (f : Fault) (e : f ≡ firstFault t 0 (blockCount (lengt
 
 -- ---- reading
 
-module _ (t room next : List ℕ) (f : Found) (e : f ≡ look t (length room)) where
+module _ (t room next : List ℕ) (f : Summary) (e : f ≡ look t (length room)) where
   pub read-good : f .number ≡ 0 → next ≡ store room 0 (eventBytes t) → readingOf f next ≡ read t room
   unfolding read
   read-good z q = rw (← e, eq-eqb (f .number) 0 z, q)

@@ -33,9 +33,9 @@ unfoldable pub reason : List ℕ → ℕ → ℕ
 reason t k = faultAt t k otherwise (if eventFault (isLast t k) (stream t (k + 1)) then 22 else 0)
 
 -- the first of n blocks from place k on that is bad, and its reason; or 0 and 0
-unfoldable pub judge : List ℕ → ℕ → ℕ → Fault
-judge t k zero = record { number = 0; block = 0 }
-judge t k (suc n) = if eqb (reason t k) 0 then judge t (k + 1) n else record { number = reason t k; block = k }
+unfoldable pub firstBadFrom : List ℕ → ℕ → ℕ → Fault
+firstBadFrom t k zero = record { number = 0; block = 0 }
+firstBadFrom t k (suc n) = if eqb (reason t k) 0 then firstBadFrom t (k + 1) n else record { number = reason t k; block = k }
 
 unfoldable pub firstBad : List ℕ → Fault
-firstBad t = judge t 0 (blockCount (length t))
+firstBad t = firstBadFrom t 0 (blockCount (length t))

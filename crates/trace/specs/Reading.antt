@@ -9,14 +9,14 @@ use Rattle.memory.specs.Memory.{store}
 use Rattle.event.specs.Walk.{walk}
 use Rattle.stream.specs.Blocks.{blockCount}
 use Rattle.stream.specs.Stream.{stream, baseOf, windowOf, eventBytes}
-use Rattle.trace.specs.declared.Found.{Found}
+use Rattle.trace.specs.declared.Summary.{Summary}
 use Rattle.trace.specs.Judge.{firstBad}
 
-abbrev pub refused : ℕ → ℕ → Found
+abbrev pub refused : ℕ → ℕ → Summary
 refused number block = record { number = number; block = block; base = 0; window = 0; bytes = 0; events = 0 }
 
 -- the window, how many bytes the events are, and how many events
-abbrev pub given : List ℕ → Found
+abbrev pub given : List ℕ → Summary
 given t =
     let s = stream t (blockCount (length t)) in
     record {
@@ -29,7 +29,7 @@ given t =
     }
 
 -- what a trace says to a reader with room for so many bytes
-unfoldable pub look : List ℕ → ℕ → Found
+unfoldable pub look : List ℕ → ℕ → Summary
 look t room =
     if eqb (firstBad t .number) 0
     then (if ltb room (length (eventBytes t)) then refused 23 0 else given t)
@@ -37,13 +37,13 @@ look t room =
 
 -- what reading gives: that, and the room, with the events at its front
 pub record Reading : Type 0 where
-  pub found : Found
+  pub summary : Summary
   pub room : List ℕ
 
-abbrev pub readingOf : Found → List ℕ → Reading
-readingOf f room = record { found = f; room = room }
+abbrev pub readingOf : Summary → List ℕ → Reading
+readingOf s room = record { summary = s; room = room }
 
 unfoldable pub read : List ℕ → List ℕ → Reading
 read t room =
-    let f = look t (length room) in
-    readingOf f (if eqb (f .number) 0 then store room 0 (eventBytes t) else room)
+    let s = look t (length room) in
+    readingOf s (if eqb (s .number) 0 then store room 0 (eventBytes t) else room)

@@ -18,7 +18,7 @@ use stream::Fault;
 
 // What a trace says: 0, the window, how many bytes its events are and how many events; or the number of the refusal, with the bad
 // block where it is one's, and zeros.
-pub struct Found {
+pub struct Summary {
     pub number: u32,
     pub block: usize,
     pub base: u32,
@@ -36,7 +36,7 @@ fn end_of(trace: &[u8], good: usize) -> usize
 }
 
 // The walk along the events of the first blocks, which are sound and have a header.
-fn walk(trace: &[u8], good: usize) -> Walked
+fn walk_in(trace: &[u8], good: usize) -> Walked
     requires { ⌜ (Sound (now trace) good × ((0 < good) × (good ≤ blockCount (length (now trace))))) × (6 ≤ length (stream (now trace) good)) ⌝ }
     ensures { λ r. ⌜ r ≡ counted (walk (eventsOf (stream (now (trace .entry)) good))) ⌝ }
 {
@@ -114,10 +114,10 @@ fn events_fault(ending: Ending, place: usize, number: u32, block: usize) -> Faul
 }
 
 // A refusal by a number, with the bad block where it is one's.
-fn refused(number: u32, block: usize) -> Found
+fn refused(number: u32, block: usize) -> Summary
     ensures { λ r. ⌜ r ≡ refused number block ⌝ }
 {
-    Found {
+    Summary {
         number,
         block,
         base: 0,
@@ -129,7 +129,7 @@ fn refused(number: u32, block: usize) -> Found
 
 // What a trace says to a reader with room for so many bytes. Two passes find the first bad block: one over the blocks, one along
 // the events of those before the first block that is wrong by itself.
-pub fn look(trace: &[u8], room: usize) -> Found
+pub fn look(trace: &[u8], room: usize) -> Summary
     ensures { λ r. ⌜ r ≡ look (now (trace .entry)) room ⌝ }
 {
     let tested = stream::first_fault(trace);
@@ -140,7 +140,7 @@ pub fn look(trace: &[u8], room: usize) -> Found
     if header_fault(trace, good) {
         return refused(answer::EVENT, 0);
     }
-    let walked = walk(trace, good);
+    let walked = walk_in(trace, good);
     let ending = walked.ending;
     let bad = events_fault(ending, walked.place, tested.number, good);
     if bad.number != 0 {
@@ -150,7 +150,7 @@ pub fn look(trace: &[u8], room: usize) -> Found
     if room < bytes {
         return refused(answer::EVENT_ROOM, 0);
     }
-    Found {
+    Summary {
         number: answer::DONE,
         block: 0,
         base: base_of(trace),
@@ -161,12 +161,12 @@ pub fn look(trace: &[u8], room: usize) -> Found
 }
 
 // Reads a trace: what it says, and its events at the front of the room. A refusal leaves the room as it was.
-pub fn read(trace: &[u8], room: &mut [u8]) -> Found
+pub fn read(trace: &[u8], room: &mut [u8]) -> Summary
     ensures { λ r. ⌜ readingOf r (now (room .exit)) ≡ read (now (trace .entry)) (now (room .entry)) ⌝ }
 {
-    let found = look(trace, room.len());
-    if found.number == 0 {
+    let summary = look(trace, room.len());
+    if summary.number == 0 {
         stream::copy(trace, room);
     }
-    found
+    summary
 }

@@ -8,14 +8,14 @@ use Rattle.memory.specs.Memory.{store}
 use Rattle.block_forms.specs.Forms.{Bytes}
 use Rattle.event.specs.Walk.{walk}
 use Rattle.stream.specs.Stream.{eventBytes}
-use Rattle.trace.specs.declared.Found.{Found}
+use Rattle.trace.specs.declared.Summary.{Summary}
 use Rattle.trace.specs.Judge.{firstBad}
 use Rattle.trace.specs.Reading.{look, readingOf, read}
 use Rattle.trace_writing.specs.Made.{traceOf}
 use Rattle.trace_writing.specs.Writing.{needed, writeNumber, write}
 
 -- "Reading gives the window and events": these
-abbrev pub same : ℕ → ℕ → List ℕ → Found
+abbrev pub same : ℕ → ℕ → List ℕ → Summary
 same base window events =
     record {
       number = 0;
@@ -60,7 +60,7 @@ WrittenReads =
 -- ---- one form
 
 -- what a trace is that reads to a window and events
-pub record Formed (t : List ℕ) (f : Found) : Type 0 where
+pub record Formed (t : List ℕ) (f : Summary) : Type 0 where
   -- byte for byte what is made of them
   pub only : t ≡ traceOf (f .base) (f .window) (eventBytes t)
   -- which writing does not refuse: the events are whole, the window is allowed, and there are at most 65,536 blocks

@@ -14,7 +14,7 @@ use Rattle.rules.proofs.Choices.{by-bool}
 use Rattle.stream.specs.declared.Fault.{Fault}
 use Rattle.stream.specs.Blocks.{blockAt, blockCount, isLast, faultAt}
 use Rattle.stream.specs.Stream.{stream, eventBytes}
-use Rattle.trace.specs.Judge.{eventFault, reason, judge, firstBad}
+use Rattle.trace.specs.Judge.{eventFault, reason, firstBadFrom, firstBad}
 use Rattle.trace.specs.Passes.{verdict}
 use Rattle.trace.specs.Reading.{look, read}
 use Rattle.trace_refusals.specs.Reading.{ReasonsExactly, Good, FirstBad, Exactly, ChangesNothing}
@@ -77,11 +77,11 @@ reasons t k h =
 
 module _ (t : List ℕ) where
   -- what was found from place k on, where those before it are not bad
-  abbrev Found : Fault → Type 0
-  Found f = (Good t × (f ≡ verdict 0 0)) ⊎ FirstBad t (f .number) (f .block)
+  abbrev Finds : Fault → Type 0
+  Finds f = (Good t × (f ≡ verdict 0 0)) ⊎ FirstBad t (f .number) (f .block)
 
-  search-from : (n k : ℕ) → k + n ≡ blockCount (length t) → ((j : ℕ) → j < k → reason t j ≡ 0) → Found (judge t k n)
-  unfolding judge
+  search-from : (n k : ℕ) → k + n ≡ blockCount (length t) → ((j : ℕ) → j < k → reason t j ≡ 0) → Finds (firstBadFrom t k n)
+  unfolding firstBadFrom
   search-from zero k e s = inl ((λ j l. s j (omega arith)), refl)
   search-from (suc n) k e s =
       by-bool (eqb (reason t k) 0)
@@ -93,7 +93,7 @@ module _ (t : List ℕ) where
       let r = reasons t k (eqb-false (reason t k) 0 u) in
       rw u (inr (record { there = omega arith; before = s; bad = refl; least = r .0; most = r .1 })))
 
-  searched : Found (firstBad t)
+  searched : Finds (firstBad t)
   unfolding firstBad
   searched = search-from (blockCount (length t)) 0 (omega arith) (λ j l. absurd (omega arith))
 

@@ -64,4 +64,4 @@ Exactly = (t : List ℕ) (room : ℕ) → Says t room
 
 -- a refusal leaves the room as it was
 abbrev pub ChangesNothing : Type 0
-ChangesNothing = (t room : List ℕ) → (read t room .found .number ≡ 0 → ⊥) → read t room .room ≡ room
+ChangesNothing = (t room : List ℕ) → (read t room .summary .number ≡ 0 → ⊥) → read t room .room ≡ room

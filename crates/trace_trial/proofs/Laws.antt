@@ -7,13 +7,13 @@ use lib.ListN.{length, getD, drop, set}
 use lib.Seq.{sets}
 use Rattle.memory.specs.Memory.{store}
 use Rattle.memory.proofs.Laws.{sets-turn}
-use Rattle.trace.specs.declared.Found.{Found}
+use Rattle.trace.specs.declared.Summary.{Summary}
 use Rattle.trace.specs.Reading.{readingOf, read}
 use Rattle.trace_writing.specs.declared.Written.{Written}
 use Rattle.trace_writing.specs.Writing.{writingOf, write}
 use Rattle.replaying.specs.declared.Replayed.{Replayed}
 use Rattle.replaying.specs.Replay.{replaying, replay}
-use Rattle.trace_trial.specs.Numbers.{foundNumbers, writtenNumbers, replayedNumbers, left, replayed}
+use Rattle.trace_trial.specs.Numbers.{summaryNumbers, writtenNumbers, replayedNumbers, left, replayed}
 
 pub front-turn : (m s : List ℕ) (i : ℕ) → i < length s → sets (set m i (getD s i 0)) (0 + (i + 1)) (drop (i + 1) s) ≡ sets m (0 + i) (drop i s)
 front-turn m s i h =
@@ -22,8 +22,8 @@ front-turn m s i h =
 
 -- ---- what each leaves, and its numbers
 
-pub read-left : (t room next found after : List ℕ) (f : Found) → readingOf f next ≡ read t room → after ≡ store found 0 (foundNumbers f)
-    → (next ≡ read t room .room) × (after ≡ store found 0 (foundNumbers (read t room .found)))
+pub read-left : (t room next found after : List ℕ) (f : Summary) → readingOf f next ≡ read t room → after ≡ store found 0 (summaryNumbers f)
+    → (next ≡ read t room .room) × (after ≡ store found 0 (summaryNumbers (read t room .summary)))
 read-left t room next found after f e q = (rw (← e), rw (← e) q)
 
 pub write-left : (base window : ℕ) (events room next found after : List ℕ) (w : Written) → writingOf w next ≡ write base window events room

@@ -5,13 +5,13 @@ use mathlib.Core.List.{List, [], _∷_, _++_}
 use Rattle.rules.specs.Choice.{if_then_else_}
 use Rattle.memory.specs.Memory.{store}
 use Rattle.engine.specs.declared.Engine.{Engine}
-use Rattle.trace.specs.declared.Found.{Found}
+use Rattle.trace.specs.declared.Summary.{Summary}
 use Rattle.trace_writing.specs.declared.Written.{Written}
 use Rattle.replaying.specs.declared.Replayed.{Replayed}
 use Rattle.replaying.specs.Replay.{replay}
 
-abbrev pub foundNumbers : Found → List ℕ
-foundNumbers f = f .number ∷ f .block ∷ f .base ∷ f .window ∷ f .bytes ∷ f .events ∷ []
+abbrev pub summaryNumbers : Summary → List ℕ
+summaryNumbers f = f .number ∷ f .block ∷ f .base ∷ f .window ∷ f .bytes ∷ f .events ∷ []
 
 abbrev pub writtenNumbers : Written → List ℕ
 writtenNumbers w = w .number ∷ w .blocks ∷ []

@@ -4,7 +4,7 @@ ghost use mathlib.Core.Path.{_≡_};
 ghost use Rattle.memory.specs.Memory.{store};
 ghost use Rattle.trace.specs.Reading.{read};
 ghost use Rattle.trace_writing.specs.Writing.{write};
-ghost use Rattle.trace_trial.specs.Numbers.{foundNumbers, writtenNumbers, flag, replayedNumbers, left, replayed};
+ghost use Rattle.trace_trial.specs.Numbers.{summaryNumbers, writtenNumbers, flag, replayedNumbers, left, replayed};
 use replaying::Replayed;
 
 // Numbers at the front of a list, as many as there is room for.
@@ -31,7 +31,7 @@ fn flag(t: bool) -> u64
 // Reads a trace into a room.
 #[no_mangle]
 pub extern "C" fn trace_trial_read(trace: &[u8], room: &mut [u8], found: &mut [u64])
-    ensures { λ _. ⌜ (now (room .exit) ≡ read (now (trace .entry)) (now (room .entry)) .room) × (now (found .exit) ≡ store (now (found .entry)) 0 (foundNumbers (read (now (trace .entry)) (now (room .entry)) .found))) ⌝ }
+    ensures { λ _. ⌜ (now (room .exit) ≡ read (now (trace .entry)) (now (room .entry)) .room) × (now (found .exit) ≡ store (now (found .entry)) 0 (summaryNumbers (read (now (trace .entry)) (now (room .entry)) .summary))) ⌝ }
 {
     let f = trace::read(trace, room);
     put_all(

@@ -30,7 +30,7 @@ look-spec =
     let header = allowed .before in
     let some = header .before in
     let tested = some .before in
-    place-there _ _ (tested .first-fault .ensures) (some .if1 .left) _ (header .header-fault .ensures) (allowed .if2 .left) _ (c .walk .ensures) (omega arith))
+    place-there _ _ (tested .first-fault .ensures) (some .if1 .left) _ (header .header-fault .ensures) (allowed .if2 .left) _ (c .walk-in .ensures) (omega arith))
     (λ c κs. search needs)
     (λ c.
     let judged = c .before .before .before in
@@ -39,7 +39,7 @@ look-spec =
     let header = allowed .before in
     let some = header .before in
     let tested = some .before in
-    look-events _ _ _ (tested .first-fault .ensures) (some .if1 .left) _ (header .header-fault .ensures) (allowed .if2 .left) _ (walked .walk .ensures) _ (judged .events-fault .ensures) (c .before .if3 .taken) _ (c .refused3 .ensures))
+    look-events _ _ _ (tested .first-fault .ensures) (some .if1 .left) _ (header .header-fault .ensures) (allowed .if2 .left) _ (walked .walk-in .ensures) _ (judged .events-fault .ensures) (c .before .if3 .taken) _ (c .refused3 .ensures))
     (λ c κs.
     let allowed = c .before .before .before .before in
     let header = allowed .before in
@@ -62,7 +62,7 @@ look-spec =
     let header = allowed .before in
     let some = header .before in
     let tested = some .before in
-    look-room _ _ _ (tested .first-fault .ensures) (some .if1 .left) _ (header .header-fault .ensures) (allowed .if2 .left) _ (walked .walk .ensures) _ (judged .events-fault .ensures) (c .before .before .before .if3 .left) _ (c .before .before .end-of .ensures) (c .before .if4 .taken) _ (c .refused4 .ensures))
+    look-room _ _ _ (tested .first-fault .ensures) (some .if1 .left) _ (header .header-fault .ensures) (allowed .if2 .left) _ (walked .walk-in .ensures) _ (judged .events-fault .ensures) (c .before .before .before .if3 .left) _ (c .before .before .end-of .ensures) (c .before .if4 .taken) _ (c .refused4 .ensures))
     (λ c κs. search needs)
     (λ c κs. search needs)
     (λ c.
@@ -73,4 +73,4 @@ look-spec =
     let header = allowed .before in
     let some = header .before in
     let tested = some .before in
-    look-good _ _ _ (tested .first-fault .ensures) (some .if1 .left) _ (header .header-fault .ensures) (allowed .if2 .left) _ (walked .walk .ensures) _ (judged .events-fault .ensures) (ended .before .if3 .left) _ (ended .end-of .ensures) (c .before .before .if4 .left) _ _ (c .before .base-of .ensures) (c .window-of .ensures)))
+    look-good _ _ _ (tested .first-fault .ensures) (some .if1 .left) _ (header .header-fault .ensures) (allowed .if2 .left) _ (walked .walk-in .ensures) _ (judged .events-fault .ensures) (ended .before .if3 .left) _ (ended .end-of .ensures) (c .before .before .if4 .left) _ _ (c .before .base-of .ensures) (c .window-of .ensures)))

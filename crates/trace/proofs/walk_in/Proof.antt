@@ -1,11 +1,13 @@
+-- `trace::walk_in` meets its contract. The loop's invariant: so many events lie before this place, and the one here has n bytes.
+-- Assumes nothing.
 use borrow.Author.Needs.{needs}
 use native.Mathlib.Omega.{arith}
 use Prim.Native.Nat.{_-_}
 use Rattle.stream.specs.Stream.{stream, eventsOf}
 use Rattle.event.proofs.Laws.{Walking}
 use Rattle.trace.proofs.Bytes.{there-begins, there-room, there-on, there-ends}
-use Rattle.trace.proofs.walk.Statement.{statement}
-use Rattle.trace.proofs.walk.Tie as tie
+use Rattle.trace.proofs.walk_in.Statement.{statement}
+use Rattle.trace.proofs.walk_in.Tie as tie
 
 abbrev Inv-loop : tie.InvT-loop
 Inv-loop trace good end place₀ events₀ n₀ place events n = Walking (eventsOf (stream trace good)) place events n
@@ -86,8 +88,8 @@ ends-requires c κs = search needs
 returns : tie.Need-returns Inv-loop μ-loop
 returns c = there-ends _ _ _ (c .before .before .before .before .before .before .before .pre) (c .before .before .before .before .before .end-of .ensures) _ _ _ _ _ (c .before .before .before .loop .inv) (c .before .before .loop-test .left) (c .before .byte .ensures) (c .ends .ensures)
 
-pub walk-spec : {M : Type 1} → statement M
-walk-spec =
+pub walk-in-spec : {M : Type 1} → statement M
+walk-in-spec =
     tie.close
     (tie.spec
     Inv-loop
