@@ -37,7 +37,7 @@ benchFor t room memory = benchOf (new (look t room .base) (look t room .window) 
 abbrev pub direct : List ℕ → ℕ → List ℕ → List ℕ → Played
 direct t room memory output = play (benchFor t room memory) output (walk (eventBytes t) .events)
 
--- a replay gives what they give, in an answer list of which a are the numbers before it
+-- a replay gives what they give; a is the answer list that it was lent
 pub record SameAs (d : Played) (r : Replaying) (a : List ℕ) : Type 0 where
   pub state : r .replayed .device ≡ d .bench .device
   pub memory : r .memory ≡ d .bench .memory
