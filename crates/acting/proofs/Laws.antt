@@ -7,12 +7,13 @@ use Rattle.enet.specs.declared.Answered.{Answered}
 use Rattle.enet.specs.Device.{new as newBench}
 use Rattle.enet.specs.Access.{write as writeRegister}
 use Rattle.words.specs.Words.{characters, first, rest}
+use Rattle.forms.specs.Pairs.{named}
 use Rattle.text.specs.Text.{written, put}
 use Rattle.commands.specs.declared.Console.{Console}
 use Rattle.commands.specs.declared.Told.{Told}
 use Rattle.commands.specs.Answers.{Given, withDevice, withBench, given, tells}
 use Rattle.replies.specs.Replies.{said, numbered}
-use Rattle.commands.specs.Commands.{zeros, output, named, answerList, starts, lengths, new, lend, write, grant, frame, burst, send, run, poke}
+use Rattle.commands.specs.Commands.{zeros, output, answerList, starts, lengths, new, lend, write, grant, frame, burst, send, run, poke}
 use Rattle.kinds.specs.declared.Act.{Act}
 use Rattle.kinds.specs.declared.Act.the-variants.{New, Lend, Write, Grant, Frame, Burst, Send, Run, Poke}
 use Rattle.acting.specs.Acts.{acts}

@@ -2,9 +2,10 @@
 use Prim.Native.Nat.{ℕ}
 use mathlib.Core.List.{List}
 use Rattle.words.specs.Words.{first, rest}
+use Rattle.forms.specs.Pairs.{named}
 use Rattle.commands.specs.declared.Console.{Console}
 use Rattle.commands.specs.Answers.{Answer}
-use Rattle.commands.specs.Commands.{output, named, answerList, starts, lengths, new, lend, write, grant, frame, burst, send, run, poke}
+use Rattle.commands.specs.Commands.{output, answerList, starts, lengths, new, lend, write, grant, frame, burst, send, run, poke}
 use Rattle.kinds.specs.declared.Act.{Act}
 use Rattle.kinds.specs.declared.Act.the-variants.{New, Lend, Write, Grant, Frame, Burst, Send, Run, Poke}
 

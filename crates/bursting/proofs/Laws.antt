@@ -10,15 +10,15 @@ use Rattle.enet.specs.declared.Answered.{Answered}
 use Rattle.pair.specs.Turn.{bursting}
 use Rattle.burst.specs.Burst.{burstOf}
 use Rattle.words.specs.Words.{characters, first, rest}
-use Rattle.forms.specs.Pairs.{decoded, decode}
+use Rattle.forms.specs.Pairs.{named, decoded, decode}
+use Rattle.forms.proofs.NamedLaws.{named-is}
 use Rattle.pair_words.specs.PairWords.{everyOther}
 use Rattle.text.specs.Text.{written, put}
 use Rattle.list_reports.specs.ListReports.{listed}
 use Rattle.commands.specs.declared.Console.{Console}
 use Rattle.commands.specs.declared.Told.{Told}
 use Rattle.commands.specs.Answers.{Given, withDevice, given, tells}
-use Rattle.commands.specs.Commands.{named, answerList, starts, lengths, burst}
-use Rattle.commands.proofs.Named.{named-is}
+use Rattle.commands.specs.Commands.{answerList, starts, lengths, burst}
 
 -- ---- the call
 

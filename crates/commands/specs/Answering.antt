@@ -1,18 +1,17 @@
 -- The answer to a line. Assumes nothing.
 use Prim.Native.Nat.{ℕ, _+_, _%_, _^_}
-use mathlib.Core.Bool.{Bool, _||_}
 use mathlib.Core.List.{List, []}
-use lib.Dec.{eqb}
-use lib.ListN.{length, getD}
 use Rattle.rules.specs.Choice.{if_then_else_}
 use Rattle.enet.specs.Device.{reset as resetBench}
 use Rattle.words.specs.Words.{first, rest}
+use Rattle.forms.specs.Pairs.{named}
 use Rattle.script.specs.declared.Command.{Command}
 use Rattle.script.specs.declared.Command.the-variants.{New, Lend, Read, Write, Line, Grant, Frame, Burst, Send, Run, Show, Ring, Poke, Peek, Check, State, Error}
 use Rattle.script.specs.Calls.{callOf}
+use Rattle.script.specs.Silent.{silent}
 use Rattle.commands.specs.declared.Console.{Console}
 use Rattle.commands.specs.Answers.{Answer, answers}
-use Rattle.commands.specs.Commands.{lent, output, named, answerList, starts, lengths, new, lend, readSays, write, lineSays, grant, frame, burst, send, run, showSays, ringSays, poke, peekSays, checkSays, stateSays, errorSays}
+use Rattle.commands.specs.Commands.{lent, output, answerList, starts, lengths, new, lend, readSays, write, lineSays, grant, frame, burst, send, run, showSays, ringSays, poke, peekSays, checkSays, stateSays, errorSays}
 
 -- "Before the first `new` the bench is that of answer 1", with no bytes lent
 unfoldable pub reset : Console
@@ -41,10 +40,6 @@ answerTo Error c m a b line = answers c m (errorSays c)
 -- "Every line is counted, from 1, also those that write nothing", in a 64-bit number
 abbrev pub counted : Console → Console
 counted c = record { device = c .device; lent = c .lent; lines = (c .lines + 1) % 2 ^ 64 }
-
--- "An empty line, and a line that begins with `#`, of any length, write nothing."
-unfoldable pub silent : List ℕ → Bool
-silent line = eqb (length line) 0 || eqb (getD line 0 0) 35
 
 unfoldable pub answer : Console → List ℕ → List ℕ → Answer
 answer c m line =

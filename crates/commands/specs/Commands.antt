@@ -17,7 +17,6 @@ use Rattle.enet.specs.Send.{send as sendInto}
 use Rattle.enet.specs.Run.{run as runInto}
 use Rattle.burst.specs.Burst.{burstOf}
 use Rattle.words.specs.Words.{characters, rest}
-use Rattle.forms.specs.Pairs.{bytesOf}
 use Rattle.pair_words.specs.PairWords.{everyOther}
 use Rattle.commands.specs.declared.Console.{Console}
 use Rattle.commands.specs.Answers.{Answer, answers, withDevice, withBench}
@@ -39,10 +38,6 @@ zeros n = replicate n 0
 
 abbrev pub output : ℕ → List ℕ
 output room = take room (zeros 65_536)
-
--- the bytes that a word names; no line names more than 2,048
-abbrev pub named : List ℕ → List ℕ
-named word = take 2048 (bytesOf word)
 
 -- "The numbers of the answer list of `burst` are 99 before the call", ROOM of them, "at most 66"
 abbrev pub answerList : ℕ → List ℕ

@@ -3,19 +3,18 @@ use Prim.Native.Nat.{ℕ, _+_, _%_, _^_, min}
 use mathlib.Core.Path.{_≡_, refl}
 use mathlib.Core.Bool.{Bool, true, false}
 use mathlib.Core.List.{List, []}
-use borrow.Author.Tests.{eq-eqb, ne-eqb}
-use lib.Dec.{eqb}
-use lib.ListN.{length, getD}
+use lib.ListN.{length}
 use Rattle.enet.specs.declared.Enet.{Enet}
 use Rattle.enet.specs.Device.{reset as resetBench}
 use Rattle.script.specs.declared.Call.{Call}
 use Rattle.script.specs.declared.Command.{Command}
 use Rattle.script.specs.declared.Command.the-variants.{New, Lend, Read, Write, Line, Grant, Frame, Burst, Send, Run, Show, Ring, Poke, Peek, Check, State, Error}
 use Rattle.script.specs.Calls.{callOf}
+use Rattle.script.specs.Silent.{silent}
 use Rattle.text.proofs.Laws.{put-nothing}
 use Rattle.commands.specs.declared.Console.{Console}
 use Rattle.commands.specs.Answers.{Answer, Given, answers, given, tells}
-use Rattle.commands.specs.Answering.{reset, answerTo, counted, silent, answer}
+use Rattle.commands.specs.Answering.{reset, answerTo, counted, answer}
 use Rattle.kinds.specs.declared.Kind.{Kind}
 use Rattle.kinds.specs.declared.Kind.the-variants.{Asks, Acts}
 use Rattle.kinds.specs.declared.Query.{Query}
@@ -61,16 +60,6 @@ module _ (c : Console) (m line : List ℕ) (a b : ℕ) where
     acts-called act p h = rw (← by-kind k, ← e, p) h
 
 -- ---- a line
-
--- an empty line writes nothing, and of another the first character tells
-module _ (line : List ℕ) where
-  pub silent-empty : length line ≡ 0 → true ≡ silent line
-  unfolding silent
-  silent-empty e = rw (eq-eqb (length line) 0 e)
-
-  pub silent-first : (length line ≡ 0 → ⊥) → eqb (getD line 0 0) 35 ≡ silent line
-  unfolding silent
-  silent-first e = rw (ne-eqb (length line) 0 e)
 
 pub reset-is : (d : Enet) → d ≡ resetBench → record { device = d; lent = 0; lines = 0 } ≡ reset
 unfolding reset

@@ -1,22 +1,12 @@
 // The bench console (docs/CONSOLE.md): one line is answered by one line, in a buffer that the caller lends.
 ghost use mathlib.Core.Path.{_≡_};
 ghost use Rattle.commands.specs.Answers.{given, tells};
-ghost use Rattle.commands.specs.Answering.{reset, answerTo, counted, silent, answer};
+ghost use Rattle.commands.specs.Answering.{reset, answerTo, counted, answer};
 use commands::Console;
 use commands::Told;
 use enet::Enet;
 use kinds::Kind;
 use script::Command;
-
-// A line that writes nothing: an empty one, or a comment.
-fn silent(line: &[u8]) -> bool
-    ensures { λ r. ⌜ r ≡ silent (now (line .entry)) ⌝ }
-{
-    if line.len() == 0 {
-        return true;
-    }
-    line[0] == b'#'
-}
 
 // Before the first `new` the bench is that of a window not allowed, and nothing is lent.
 pub fn reset() -> Console
@@ -61,7 +51,7 @@ pub fn answer(console: Console, memory: &mut [u8], line: &[u8], text: &mut [u8],
     ensures { λ r. ⌜ given r (now (memory .exit)) (now (text .exit)) ≡ tells (answer console (now (memory .entry)) (now (line .entry))) (now (text .entry)) at ⌝ }
 {
     let console = counted(console);
-    if silent(line) {
+    if script::silent(line) {
         let end = commands::within(at, text.len());
         return Told { console, end };
     }

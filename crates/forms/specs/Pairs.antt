@@ -3,7 +3,7 @@ use Prim.Native.Nat.{ℕ, _+_, _*_, _/_, _%_}
 use mathlib.Core.Bool.{Bool, true, false, not}
 use mathlib.Core.List.{List, [], _∷_}
 use lib.Dec.{eqb, ltb, leb}
-use lib.ListN.{length}
+use lib.ListN.{length, take}
 use Rattle.rules.specs.Choice.{if_then_else_}
 use Rattle.memory.specs.Memory.{store}
 use Rattle.forms.specs.declared.numbers.Number.{Number}
@@ -35,6 +35,10 @@ abbrev pub bytesOf : List ℕ → List ℕ
 bytesOf [] = []
 bytesOf (high ∷ []) = []
 bytesOf (high ∷ low ∷ s) = byteOf high low ∷ bytesOf s
+
+-- the bytes that a word names; no line names more than 2,048
+abbrev pub named : List ℕ → List ℕ
+named word = take 2048 (bytesOf word)
 
 -- what decoding a word into a lent buffer gives: how many bytes the word names, and the buffer with them at its front
 pub record Decoded : Type 0 where

@@ -7,14 +7,14 @@ use Rattle.enet.specs.declared.Answered.{Answered}
 use Rattle.enet.specs.Device.{Outcome, outcome}
 use Rattle.enet.specs.Frames.{grant as grantAt, receive}
 use Rattle.words.specs.Words.{characters}
-use Rattle.forms.specs.Pairs.{decoded, decode}
+use Rattle.forms.specs.Pairs.{named, decoded, decode}
+use Rattle.forms.proofs.NamedLaws.{named-is}
 use Rattle.text.specs.Text.{written, put}
-use Rattle.commands.proofs.Named.{named-is}
 use Rattle.commands.specs.declared.Console.{Console}
 use Rattle.commands.specs.declared.Told.{Told}
 use Rattle.commands.specs.Answers.{answers, withDevice, given, tells}
 use Rattle.replies.specs.Replies.{numbered}
-use Rattle.commands.specs.Commands.{named, behindLent, grant, frame}
+use Rattle.commands.specs.Commands.{behindLent, grant, frame}
 
 -- ---- a call that answers a number
 

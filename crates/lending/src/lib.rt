@@ -1,9 +1,10 @@
 // The calls of the device over the memory that it is lent. Each writes its line.
 ghost use mathlib.Core.Path.{_≡_};
 ghost use lib.ListN.{length};
+ghost use Rattle.forms.specs.Pairs.{named};
 ghost use Rattle.text.specs.Text.{written, put};
 ghost use Rattle.commands.specs.Answers.{given, tells, withDevice};
-ghost use Rattle.commands.specs.Commands.{named, grant, frame};
+ghost use Rattle.commands.specs.Commands.{grant, frame};
 ghost use Rattle.replies.specs.Replies.{numbered};
 use commands::Console;
 use commands::Told;

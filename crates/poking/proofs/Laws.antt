@@ -9,13 +9,13 @@ use Rattle.rules.proofs.Choices.{said-yes, said-no}
 use Rattle.memory.specs.Memory.{store}
 use Rattle.window.specs.Window.{inWindow, offset}
 use Rattle.words.specs.Words.{characters}
-use Rattle.forms.specs.Pairs.{decoded, decode}
+use Rattle.forms.specs.Pairs.{named, decoded, decode}
+use Rattle.forms.proofs.NamedLaws.{named-is}
 use Rattle.text.specs.Text.{written, put}
 use Rattle.replies.specs.Replies.{either}
 use Rattle.commands.specs.declared.Console.{Console}
 use Rattle.commands.specs.Answers.{given, tells}
-use Rattle.commands.specs.Commands.{named, poke}
-use Rattle.commands.proofs.Named.{named-is}
+use Rattle.commands.specs.Commands.{poke}
 
 -- the window has all of the n bytes, or not
 module _ (base window address n : ℕ) (m : List ℕ) (inside : Bool) (e : inside ≡ inWindow base window address n) where

@@ -10,9 +10,8 @@ use Rattle.memory.specs.Memory.{store}
 use Rattle.window.specs.Window.{inWindow, offset}
 use Rattle.event.specs.Event.{frame, send, bytesOf}
 use Rattle.event_list.specs.Put.{putOf, put}
-use Rattle.forms.specs.Pairs.{decoded, decode}
-use Rattle.commands.specs.Commands.{named}
-use Rattle.commands.proofs.Named.{named-is}
+use Rattle.forms.specs.Pairs.{named, decoded, decode}
+use Rattle.forms.proofs.NamedLaws.{named-is}
 use Rattle.recording.specs.declared.Day.{Day}
 use Rattle.recording.specs.Day.{more, failed}
 use Rattle.recording.specs.Bytes.{Poked, poked, mayPoke, poke, listed, place, happened, append, sendInto}

@@ -5,30 +5,19 @@ use mathlib.Core.Bool.{Bool, true, false, not, _||_}
 use mathlib.Core.List.{List}
 use borrow.Author.Tests.{eq-eqb, ne-eqb}
 use lib.Dec.{eqb}
-use lib.ListN.{length, getD}
 use Rattle.rules.proofs.Choices.{if-yes, if-no, or-yes, or-last, or-no}
 use Rattle.event.specs.Event.{registerWrite, grant, frame, bytesOf}
 use Rattle.words.specs.Words.{rest}
+use Rattle.forms.specs.Pairs.{named}
 use Rattle.script.specs.declared.Call.{Call}
 use Rattle.script.specs.Calls.{callOf}
-use Rattle.commands.specs.Commands.{named}
-use Rattle.commands.specs.Answering.{silent}
+use Rattle.script.specs.Silent.{silent}
 use Rattle.recording.specs.declared.Day.{Day}
 use Rattle.recording.specs.declared.steps.Step.{Step}
 use Rattle.recording.specs.declared.steps.Step.the-variants.{New, Poke, Write, Grant, Frame, Send, Other}
 use Rattle.recording.specs.Day.{counted, failed, new}
 use Rattle.recording.specs.Bytes.{poked, listed, poke, append, sendInto}
 use Rattle.recording.specs.Recording.{Recorded, recorded, withImage, withList, stepOf, first, later, called, take}
-
--- an empty line says nothing, and of another the first character tells
-module _ (line : List ℕ) where
-  pub silent-empty : length line ≡ 0 → true ≡ silent line
-  unfolding silent
-  silent-empty e = rw (eq-eqb (length line) 0 e)
-
-  pub silent-first : (length line ≡ 0 → ⊥) → eqb (getD line 0 0) 35 ≡ silent line
-  unfolding silent
-  silent-first e = rw (ne-eqb (length line) 0 e)
 
 -- ---- by its step
 

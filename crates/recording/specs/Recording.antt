@@ -6,12 +6,12 @@ use lib.Dec.{eqb}
 use Rattle.rules.specs.Choice.{if_then_else_}
 use Rattle.event.specs.Event.{registerWrite, grant, frame, bytesOf}
 use Rattle.words.specs.Words.{rest}
+use Rattle.forms.specs.Pairs.{named}
 use Rattle.script.specs.declared.Call.{Call}
 use Rattle.script.specs.declared.Command.{Command}
 use Rattle.script.specs.declared.Command.the-variants as command
 use Rattle.script.specs.Calls.{callOf}
-use Rattle.commands.specs.Commands.{named}
-use Rattle.commands.specs.Answering.{silent}
+use Rattle.script.specs.Silent.{silent}
 use Rattle.recording.specs.declared.Day.{Day}
 use Rattle.recording.specs.declared.steps.Step.{Step}
 use Rattle.recording.specs.declared.steps.Step.the-variants.{New, Poke, Write, Grant, Frame, Send, Other}

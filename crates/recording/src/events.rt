@@ -1,7 +1,7 @@
 // The events of a day, each behind those before it.
 ghost use mathlib.Core.Path.{_≡_};
 ghost use Rattle.event.specs.Event.{registerWrite, grant as aGrant, frame as aFrame, bytesOf};
-ghost use Rattle.commands.specs.Commands.{named};
+ghost use Rattle.forms.specs.Pairs.{named};
 ghost use Rattle.recording.specs.Bytes.{listed, place, happened, append, sendInto};
 use crate::Day;
 use crate::firmware::blank;

@@ -2,7 +2,7 @@
 ghost use mathlib.Core.Path.{_≡_};
 ghost use Prim.Native.Nat.{_≤_};
 ghost use lib.ListN.{length};
-ghost use Rattle.commands.specs.Commands.{named};
+ghost use Rattle.forms.specs.Pairs.{named};
 ghost use Rattle.recording.specs.Bytes.{poked, mayPoke, poke};
 use crate::Day;
 use forms::pairs;

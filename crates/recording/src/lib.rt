@@ -4,7 +4,6 @@ mod firmware;
 mod steps;
 
 ghost use mathlib.Core.Path.{_≡_};
-ghost use Rattle.commands.specs.Answering.{silent};
 ghost use Rattle.recording.specs.Day.{begin, more, counted, failed, new};
 ghost use Rattle.recording.specs.Recording.{recorded, first, later, take};
 use steps::Step;
@@ -70,16 +69,6 @@ pub(crate) fn failed(mut day: Day) -> Day
     day
 }
 
-// A line that says nothing: an empty one, or a comment.
-fn silent(line: &[u8]) -> bool
-    ensures { λ r. ⌜ r ≡ silent (now (line .entry)) ⌝ }
-{
-    if line.len() == 0 {
-        return true;
-    }
-    line[0] == b'#'
-}
-
 // The window of `new`.
 fn new(mut day: Day, base: u32, window: u32) -> Day
     ensures { λ r. ⌜ r ≡ new day base window ⌝ }
@@ -136,7 +125,7 @@ pub fn take(day: Day, line: &[u8], image: &mut [u8], list: &mut [u8]) -> Day
     ensures { λ r. ⌜ recorded r (now (image .exit)) (now (list .exit)) ≡ take day (now (image .entry)) (now (list .entry)) (now (line .entry)) ⌝ }
 {
     let next = counted(day);
-    if silent(line) {
+    if script::silent(line) {
         return next;
     }
     if day.wrong != 0 {

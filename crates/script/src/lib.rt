@@ -1,6 +1,8 @@
-// A line of the bench console as a call: the commands, each with its words and limits (docs/CONSOLE.md).
+// A line of the bench console as a call: the commands, each with its words and limits; and which lines say nothing
+// (docs/CONSOLE.md).
 ghost use mathlib.Core.Path.{_≡_};
 ghost use Rattle.script.specs.Calls.{noCall, given, alone, withOne, withTwo, withMore, callOf};
+ghost use Rattle.script.specs.Silent.{silent};
 use forms::numbers::Number;
 use forms::numbers::decimal;
 use forms::numbers::hexadecimal;
@@ -158,6 +160,16 @@ fn with_more(name: &[u8], a: &[u8], words: &[u8]) -> Call
         return no_call();
     }
     with_two(name, a, words)
+}
+
+// A line that says nothing: an empty one, or a comment.
+pub fn silent(line: &[u8]) -> bool
+    ensures { λ r. ⌜ r ≡ silent (now (line .entry)) ⌝ }
+{
+    if line.len() == 0 {
+        return true;
+    }
+    line[0] == b'#'
 }
 
 // The call that a line names.

@@ -1,6 +1,6 @@
 -- `poking::poke` meets its contract. Assumes nothing.
 use borrow.Author.Needs.{needs}
-use Rattle.commands.proofs.Named.{named-short}
+use Rattle.forms.proofs.NamedLaws.{named-short}
 use Rattle.poking.proofs.Laws.{poke-is}
 use Rattle.poking.proofs.poke.Statement.{statement}
 use Rattle.poking.proofs.poke.Tie as tie

@@ -1,6 +1,6 @@
 use borrow.Author.Needs.{needs}
 use Rattle.recording.proofs.ByteLaws.{poke-named}
-use Rattle.commands.proofs.Named.{named-short}
+use Rattle.forms.proofs.NamedLaws.{named-short}
 use Rattle.recording.proofs.firmware.poke.Statement.{statement}
 use Rattle.recording.proofs.firmware.poke.Tie as tie
 

@@ -11,8 +11,7 @@ use Rattle.rules.proofs.Choices.{by-bool}
 use Rattle.memory.specs.Memory.{store}
 use Rattle.memory.proofs.Laws.{store-out}
 use Rattle.memory.proofs.Stores.{length-store, part-back, store-append}
-use Rattle.forms.specs.Pairs.{Decoded, bytesOf, decoded, decode}
-use Rattle.commands.specs.Commands.{named}
+use Rattle.forms.specs.Pairs.{Decoded, bytesOf, named, decoded, decode}
 
 -- a store over all of a list
 store-over : (m u : List ℕ) → length u ≡ length m → store m 0 u ≡ u
