@@ -1,8 +1,9 @@
 // Standard input into lines. A line is gathered in a buffer, since it may come in several chunks; what is past the buffer's end
 // is not kept. A last part that no line feed follows is a line if it has a character.
 ghost use mathlib.Core.Path.{_≡_};
-ghost use Prim.Native.Nat.{_-_, _^_, _≤_};
-ghost use mathlib.Core.Bool.{false};
+ghost use Prim.Native.Nat.{_-_};
+ghost use Rattle.lines.specs.Taking.{begin, taken, take};
+ghost use Rattle.lines.specs.Reading.{More};
 
 // What one read takes at most.
 pub const CHUNK: usize = 65536;
@@ -16,20 +17,20 @@ pub struct Input {
     pub from: usize,
     // and ends here.
     pub to: usize,
-    // Characters of the line at hand so far.
+    // So many characters are kept of the line at hand.
     pub kept: usize,
     // Whether the part ended a line,
     pub ended: bool,
-    // and how many characters that line has.
+    // and how many characters are kept of that one.
     pub last: usize,
     // A proved loop has to end, and nothing says that an input does. So the parts that are taken of it are counted down,
     // from a number that no input uses up. Where the input has ended none is left.
-    pub parts: u64,
+    pub parts: usize,
 }
 
 // Before the first read.
 pub fn begin() -> Input
-    ensures { λ r. ⌜ (r .from ≡ 0) × (r .to ≡ 0) × (r .kept ≡ 0) × (r .ended ≡ false) × (r .last ≡ 0) × (r .parts ≡ 2 ^ 64 - 1) ⌝ }
+    ensures { λ r. ⌜ r ≡ begin ⌝ }
 {
     Input {
         from: 0,
@@ -37,47 +38,29 @@ pub fn begin() -> Input
         kept: 0,
         ended: false,
         last: 0,
-        parts: u64::MAX,
+        parts: usize::MAX,
     }
 }
 
-// One part fewer.
-fn one_less(parts: u64) -> u64
-    ensures { λ r. ⌜ r ≡ parts - 1 ⌝ }
+// a less b, or 0.
+fn less(a: usize, b: usize) -> usize
+    ensures { λ r. ⌜ r ≡ a - b ⌝ }
 {
-    if parts == 0 { 0 } else { parts - 1 }
-}
-
-fn least(a: usize, b: usize) -> usize
-    ensures { λ r. ⌜ (r ≤ a) × (r ≤ b) ⌝ }
-{
-    if a < b { a } else { b }
-}
-
-// Keeps the n characters of a chunk from an index on behind the first `kept` of a line, as many as there is room for, and
-// answers how many the line has then.
-fn keep(line: &mut [u8; LINE], kept: usize, chunk: &[u8], from: usize, n: usize) -> usize {
-    memory::store(line, kept, memory::part(chunk, from, n));
-    if n <= usize::MAX - kept {
-        return kept + n;
-    }
-    usize::MAX
+    if a < b { 0 } else { a - b }
 }
 
 // Takes a part of the input: what the chunk at hand has of the line at hand, with its end if that is there.
 pub fn take(input: Input, chunk: &[u8; CHUNK], line: &mut [u8; LINE]) -> Input
-    ensures { λ r. ⌜ r .parts ≡ input .parts - 1 ⌝ }
+    ensures { λ r. ⌜ taken r (now (line .exit)) ≡ take input (now (chunk .entry)) (now (line .entry)) ⌝ }
 {
-    let to = least(input.to, CHUNK);
-    let from = least(input.from, to);
-    let read: &[u8] = chunk;
-    let end = bytes::scan::find(read, from, to, b'\n');
-    let kept = keep(line, input.kept, read, from, end - from);
-    let parts = one_less(input.parts);
-    if end < to {
+    let left = memory::part(chunk, input.from, less(input.to, input.from));
+    let n = bytes::scan::find(left, 0, left.len(), b'\n');
+    let kept = text::put(line, input.kept, memory::part(left, 0, n));
+    let parts = less(input.parts, 1);
+    if n < left.len() {
         return Input {
-            from: end + 1,
-            to,
+            from: input.from + n + 1,
+            to: input.to,
             kept: 0,
             ended: true,
             last: kept,
@@ -85,8 +68,8 @@ pub fn take(input: Input, chunk: &[u8; CHUNK], line: &mut [u8; LINE]) -> Input
         };
     }
     Input {
-        from: end,
-        to,
+        from: 0,
+        to: 0,
         kept,
         ended: false,
         last: 0,
@@ -96,7 +79,7 @@ pub fn take(input: Input, chunk: &[u8; CHUNK], line: &mut [u8; LINE]) -> Input
 
 // Where that part ended no line, reads the next chunk; where there is none, the input has ended.
 pub fn more(input: Input, chunk: &mut [u8; CHUNK]) -> Input
-    ensures { λ r. ⌜ r .parts ≤ input .parts ⌝ }
+    ensures { λ r. ⌜ More input r (now (chunk .entry)) (now (chunk .exit)) ⌝ }
 {
     if input.ended {
         return input;

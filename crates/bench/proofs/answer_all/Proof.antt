@@ -1,6 +1,7 @@
 -- `bench::answer_all` is safe and ends: each turn takes a part of the input. Assumes nothing.
 use borrow.Author.Needs.{needs}
 use Prim.Native.Nat.{_≤_}
+use Rattle.lines.proofs.Turns.{turn-less}
 use Rattle.bench.proofs.answer_all.Statement.{statement}
 use Rattle.bench.proofs.answer_all.Tie as tie
 
@@ -26,7 +27,7 @@ answered-requires : tie.Need-answered-requires Inv-loop μ-loop
 answered-requires c κs = search needs
 
 loop-less : tie.Need-loop-less Inv-loop μ-loop
-loop-less c = search needs
+loop-less c = search turn-less
 
 loop-again : tie.Need-loop-again Inv-loop μ-loop
 loop-again c = search needs

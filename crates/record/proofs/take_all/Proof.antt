@@ -1,6 +1,7 @@
 -- `record::take_all` is safe and ends: each turn takes a part of the input. Assumes nothing.
 use borrow.Author.Needs.{needs}
 use Prim.Native.Nat.{_≤_}
+use Rattle.lines.proofs.Turns.{turn-less}
 use Rattle.record.proofs.take_all.Statement.{statement}
 use Rattle.record.proofs.take_all.Tie as tie
 
@@ -23,7 +24,7 @@ taken-requires : tie.Need-taken-requires Inv-loop μ-loop
 taken-requires c κs = search needs
 
 loop-less : tie.Need-loop-less Inv-loop μ-loop
-loop-less c = search needs
+loop-less c = search turn-less
 
 loop-again : tie.Need-loop-again Inv-loop μ-loop
 loop-again c = search needs
