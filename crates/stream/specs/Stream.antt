@@ -18,9 +18,13 @@ baseOf s = word s 0
 unfoldable pub windowOf : List ℕ → ℕ
 windowOf s = half s 4 + 1
 
--- the events behind that header
+-- so many bytes are that header
+abbrev pub headerLength : ℕ
+headerLength = 6
+
+-- the events behind it
 abbrev pub eventsOf : List ℕ → List ℕ
-eventsOf s = drop 6 s
+eventsOf s = drop headerLength s
 
 -- the events of a whole trace
 unfoldable pub eventBytes : List ℕ → List ℕ

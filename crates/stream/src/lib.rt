@@ -6,7 +6,10 @@ ghost use lib.ListN.{length, drop};
 ghost use Rattle.memory.specs.Memory.{store};
 ghost use Rattle.block.specs.Fields.{usedData};
 ghost use Rattle.stream.specs.Blocks.{blockAt, blockCount, faultAt, firstFault};
-ghost use Rattle.stream.specs.Stream.{eventBytes};
+ghost use Rattle.stream.specs.Stream.{headerLength, eventBytes};
+
+// The bytes of the header: the base, and the window's length less one.
+pub const HEADER: usize = 6;
 
 // A block that is wrong by itself, and its number; or, with 0, the place behind the blocks that were tested.
 pub struct Fault {
@@ -71,22 +74,22 @@ fn used_data(trace: &[u8], k: usize) -> &[u8]
 
 // Where the bytes behind so many bytes of used data stand among the events: none of the header is one of them.
 fn behind_header(bytes: usize) -> usize
-    ensures { λ r. ⌜ r ≡ bytes - 6 ⌝ }
+    ensures { λ r. ⌜ r ≡ bytes - headerLength ⌝ }
 {
-    if bytes < 6 { 0 } else { bytes - 6 }
+    if bytes < HEADER { 0 } else { bytes - HEADER }
 }
 
 // How many of the bytes behind so many bytes of used data belong to the header.
 fn header_left(bytes: usize) -> usize
-    ensures { λ r. ⌜ r ≡ 6 - bytes ⌝ }
+    ensures { λ r. ⌜ r ≡ headerLength - bytes ⌝ }
 {
-    if bytes < 6 { 6 - bytes } else { 0 }
+    if bytes < HEADER { HEADER - bytes } else { 0 }
 }
 
 // Puts the events of the block at a place behind those of so many bytes of used data before it, and answers how many bytes of
 // used data the block has.
 fn copy_block(trace: &[u8], k: usize, bytes: usize, room: &mut [u8]) -> usize
-    ensures { λ r. ⌜ (r ≡ length (usedData (blockAt (now (trace .entry)) k))) × (now (room .exit) ≡ store (now (room .entry)) (bytes - 6) (drop (6 - bytes) (usedData (blockAt (now (trace .entry)) k)))) ⌝ }
+    ensures { λ r. ⌜ (r ≡ length (usedData (blockAt (now (trace .entry)) k))) × (now (room .exit) ≡ store (now (room .entry)) (bytes - headerLength) (drop (headerLength - bytes) (usedData (blockAt (now (trace .entry)) k)))) ⌝ }
 {
     let used = used_data(trace, k);
     memory::store(

@@ -12,11 +12,11 @@ use Rattle.event.specs.declared.Ending.{Ending}
 use Rattle.event.specs.declared.Ending.the-variants.{Whole, Cut, NoEvent}
 use Rattle.stream.specs.declared.Fault.{Fault}
 use Rattle.stream.specs.Blocks.{blockCount, isLast, faultAt}
-use Rattle.stream.specs.Stream.{stream, baseOf, windowOf, eventsOf}
+use Rattle.stream.specs.Stream.{stream, baseOf, windowOf, headerLength, eventsOf}
 
 -- "a header cut or not allowed is an event fault"
 unfoldable pub headerFault : List ℕ → Bool
-headerFault s = ltb (length s) 6 || not (windowAllowed (baseOf s) (windowOf s))
+headerFault s = ltb (length s) headerLength || not (windowAllowed (baseOf s) (windowOf s))
 
 -- "A byte no event can have there is its block's fault, a cut event the last block's"
 abbrev pub endingFault : Bool → Ending → Bool

@@ -8,13 +8,14 @@ ghost use Rattle.memory.specs.Memory.{word};
 ghost use Rattle.block.specs.Fields.{half};
 ghost use Rattle.event.specs.Walk.{walk, counted};
 ghost use Rattle.stream.specs.Blocks.{blockCount, Sound};
-ghost use Rattle.stream.specs.Stream.{stream, eventsOf};
+ghost use Rattle.stream.specs.Stream.{stream, headerLength, eventsOf};
 ghost use Rattle.trace.specs.Judge.{headerFault};
 ghost use Rattle.trace.specs.Passes.{verdict, eventsFault};
 ghost use Rattle.trace.specs.Reading.{refused, look, readingOf, read};
 use event::Ending;
 use event::Walked;
 use stream::Fault;
+use stream::HEADER;
 
 // What a trace says: 0, the window, how many bytes its events are and how many events; or the number of the refusal, with the bad
 // block where it is one's, and zeros.
@@ -37,22 +38,22 @@ fn end_of(trace: &[u8], good: usize) -> usize
 
 // The walk along the events of the first blocks, which are sound and have a header.
 fn walk_in(trace: &[u8], good: usize) -> Walked
-    requires { ⌜ (Sound (now trace) good × ((0 < good) × (good ≤ blockCount (length (now trace))))) × (6 ≤ length (stream (now trace) good)) ⌝ }
+    requires { ⌜ (Sound (now trace) good × ((0 < good) × (good ≤ blockCount (length (now trace))))) × (headerLength ≤ length (stream (now trace) good)) ⌝ }
     ensures { λ r. ⌜ r ≡ counted (walk (eventsOf (stream (now (trace .entry)) good))) ⌝ }
 {
     let end = end_of(trace, good);
     let mut place = 0;
     let mut events = 0;
-    let mut n = scattered::size(trace, end, 6);
+    let mut n = scattered::size(trace, end, HEADER);
     while n != 0 {
         place += n;
         events += 1;
-        n = scattered::size(trace, end, 6 + place);
+        n = scattered::size(trace, end, HEADER + place);
     }
     Walked {
         place,
         events,
-        ending: event::ends(scattered::byte(trace, 6 + place), end - 6 - place),
+        ending: event::ends(scattered::byte(trace, HEADER + place), end - HEADER - place),
     }
 }
 
@@ -75,7 +76,7 @@ fn header_fault(trace: &[u8], good: usize) -> bool
     requires { ⌜ Sound (now trace) good × ((0 < good) × (good ≤ blockCount (length (now trace)))) ⌝ }
     ensures { λ r. ⌜ r ≡ headerFault (stream (now (trace .entry)) good) ⌝ }
 {
-    if end_of(trace, good) < 6 {
+    if end_of(trace, good) < HEADER {
         return true;
     }
     !window::window_allowed(base_of(trace), window_of(trace))
@@ -84,13 +85,13 @@ fn header_fault(trace: &[u8], good: usize) -> bool
 // The first bad block, where the header is right: that of a byte no event can have, else the one that is wrong by itself, else
 // the last where an event is cut.
 fn events_fault(ending: Ending, place: usize, number: u32, block: usize) -> Fault
-    requires { ⌜ (6 + place < 2 ^ 64) × (0 < block) ⌝ }
+    requires { ⌜ (headerLength + place < 2 ^ 64) × (0 < block) ⌝ }
     ensures { λ r. ⌜ r ≡ eventsFault ending place (verdict number block) ⌝ }
 {
     match ending {
         Ending::NoEvent => Fault {
             number: answer::EVENT,
-            block: (6 + place) / 504,
+            block: (HEADER + place) / 504,
         },
         Ending::Cut => {
             if number == 0 {
@@ -146,7 +147,7 @@ pub fn look(trace: &[u8], room: usize) -> Summary
     if bad.number != 0 {
         return refused(bad.number, bad.block);
     }
-    let bytes = end_of(trace, good) - 6;
+    let bytes = end_of(trace, good) - HEADER;
     if room < bytes {
         return refused(answer::EVENT_ROOM, 0);
     }
