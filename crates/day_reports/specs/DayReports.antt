@@ -2,6 +2,8 @@
 -- console's. Assumes nothing.
 use Prim.Native.Nat.{ℕ}
 use mathlib.Core.List.{List, [], _++_}
+use lib.Dec.{leb}
+use Rattle.rules.specs.Choice.{if_then_else_}
 use Rattle.words.specs.Words.{characters}
 use Rattle.fields.specs.Fields.{number, value}
 use Rattle.replies.specs.Replies.{newline, numbered}
@@ -16,6 +18,11 @@ placed name v n = name ++ value v ++ number n ++ newline
 -- a name and two numbers: `refused N BLOCK`, `recorded EVENTS BLOCKS`
 unfoldable pub counted : List ℕ → ℕ → ℕ → List ℕ
 counted name a b = name ++ number a ++ number b ++ newline
+
+-- "or `refused N BLOCK` alone, or `refused N` where the reason is no block's": those of a block are 17 to 22
+unfoldable pub refusalSays : ℕ → ℕ → List ℕ
+refusalSays n block =
+    if leb n 22 then counted (characters "refused") n block else numbered (characters "refused") n
 
 -- "a line for each event as the console does (`write N`, `grant N`, `frame N`, `send N BYTES`)", with the answer and the bytes sent
 unfoldable pub eventSays : Found → ℕ → List ℕ → List ℕ

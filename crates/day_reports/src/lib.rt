@@ -1,7 +1,7 @@
 // The lines that tell of a recorded day (docs/TRACE.md).
 ghost use mathlib.Core.Path.{_≡_};
 ghost use Rattle.text.specs.Text.{written, put};
-ghost use Rattle.day_reports.specs.DayReports.{placed, counted, eventSays};
+ghost use Rattle.day_reports.specs.DayReports.{placed, counted, refusalSays, eventSays};
 use event::Found;
 
 // A name, a value and a number.
@@ -22,6 +22,16 @@ pub fn counted(text: &mut [u8], at: usize, name: &[u8], a: u64, b: u64) -> usize
     let end = fields::number(text, end, a);
     let end = fields::number(text, end, b);
     text::character(text, end, b'\n')
+}
+
+// A refusal: with its block where the reason is a block's.
+pub fn refused(text: &mut [u8], at: usize, number: u32, block: u64) -> usize
+    ensures { λ r. ⌜ written r (now (text .exit)) ≡ put (now (text .entry)) at (refusalSays number block) ⌝ }
+{
+    if number <= answer::EVENT {
+        return counted(text, at, b"refused", number as u64, block);
+    }
+    replies::numbered(text, at, b"refused", number as u64)
 }
 
 // What an event answered, and the bytes that it sent.

@@ -1,16 +1,13 @@
-// Whole files: read into a buffer, and made, one or two together. Where a file cannot be made everything is as it was, and no
-// temporary file is left. What the system's calls do is assumed; proved is that each function is safe and ends, and what its
-// contract says of its answer.
-mod placing;
+// A file that an argument of the program names, read whole. What the system's calls do is assumed; proved is that each function is
+// safe and ends, and what its contract says of its answer.
 mod reading;
-mod temporary;
-mod verifying;
 
 ghost use Prim.Native.Nat.{_≤_};
 ghost use lib.ListN.{length};
-use temporary::NAME;
-use temporary::named;
-use temporary::written;
+use libc::STDOUT_FILENO;
+
+// No argument that the system hands to a program is longer.
+const NAME: usize = 131_072;
 
 // What came of reading a file: whether it could be opened and read, how many of its bytes are at the buffer's front, and
 // whether it has more than those.
@@ -21,7 +18,7 @@ pub struct Got {
 }
 
 // Reads a file until it ends or the buffer is full. A folder cannot be read.
-pub fn read(path: &[u8], buffer: &mut [u8]) -> Got
+fn read(path: &[u8], buffer: &mut [u8]) -> Got
     ensures { λ r. ⌜ r .count ≤ length (now (buffer .exit)) ⌝ }
 {
     let fd = os::open_read(path);
@@ -33,34 +30,34 @@ pub fn read(path: &[u8], buffer: &mut [u8]) -> Got
     got
 }
 
-// Makes two files, or none: 0 where both are made, 1 where the first cannot be, 2 where the second cannot be. Both are
-// written before either is put in its place. One name for both can hold one of them only.
-pub fn make_both(first: &[u8], a: &[u8], second: &[u8], b: &[u8]) -> u32
-    ensures { λ r. ⌜ r ≤ 2 ⌝ }
+// The same, and where it cannot be read says so.
+fn read_or_say(path: &[u8], buffer: &mut [u8]) -> Got
+    ensures { λ r. ⌜ r .count ≤ length (now (buffer .exit)) ⌝ }
 {
-    let mut one = [0u8; NAME];
-    let n = written(first, second, a, &mut one);
-    if n == 0 {
-        return 1;
+    let got = read(path, buffer);
+    if !got.ok {
+        io::write_all(STDOUT_FILENO, b"error ");
+        io::write_all(STDOUT_FILENO, path);
+        io::write_all(STDOUT_FILENO, b"\n");
     }
-    let mut two = [0u8; NAME];
-    let k = second_written(first, second, b, &mut two);
-    let mut kept = [0u8; NAME];
-    let j = written(first, second, b"", &mut kept);
-    placing::place_both(
-        named(&one, n),
-        first,
-        a,
-        named(&kept, j),
-        named(&two, k),
-        second,
-    )
+    got
 }
 
-// The second of two files under a temporary name, and that name's length; 0 where it cannot be made.
-fn second_written(first: &[u8], second: &[u8], b: &[u8], name: &mut [u8; NAME]) -> usize {
-    if check::same(first, second) {
-        return 0;
-    }
-    written(second, first, b, name)
+// Puts an argument at the front of a buffer, and answers its length.
+fn argument(i: usize, name: &mut [u8; NAME]) -> usize {
+    os::arg(i, name)
+}
+
+// The name of so many characters.
+fn named(name: &[u8; NAME], n: usize) -> &[u8] {
+    memory::part(name, 0, n)
+}
+
+// Reads the file that an argument names, or says on standard output that it cannot be read: `error NAME`.
+pub fn load(i: usize, buffer: &mut [u8]) -> Got
+    ensures { λ r. ⌜ r .count ≤ length (now (buffer .exit)) ⌝ }
+{
+    let mut name = [0u8; NAME];
+    let n = argument(i, &mut name);
+    read_or_say(named(&name, n), buffer)
 }

@@ -40,7 +40,7 @@ fn made(day: Day, trace: &[u8], image: &[u8], blocks: usize) {
     let k = argument(2, &mut second);
     let one = named(&first, n);
     let two = named(&second, k);
-    let failed = files::make_both(one, trace, two, image);
+    let failed = new_files::make_both(one, trace, two, image);
     if failed == 1 {
         messages::named(b"error", one);
         return;

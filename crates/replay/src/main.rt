@@ -13,44 +13,13 @@ const EVENTS: usize = 2_064_378;
 // The most bytes that are taken of the memory image.
 const MEMORY: usize = 98_312;
 
-// No argument that the system hands to a program is longer.
-const NAME: usize = 131_072;
-
-// Puts an argument at the front of a buffer, and answers its length.
-fn argument(i: usize, name: &mut [u8; NAME]) -> usize {
-    os::arg(i, name)
-}
-
-// The name of so many characters.
-fn named(name: &[u8; NAME], n: usize) -> &[u8] {
-    memory::part(name, 0, n)
-}
-
-// Reads the file of this name into the buffer, or says that it cannot be read.
-fn read(path: &[u8], buffer: &mut [u8]) -> Got {
-    let got = files::read(path, buffer);
-    if !got.ok {
-        io::write_all(STDOUT_FILENO, b"error ");
-        io::write_all(STDOUT_FILENO, path);
-        io::write_all(STDOUT_FILENO, b"\n");
-    }
-    got
-}
-
-// The file that an argument names.
-fn load(i: usize, buffer: &mut [u8]) -> Got {
-    let mut name = [0u8; NAME];
-    let n = argument(i, &mut name);
-    read(named(&name, n), buffer)
-}
-
 // The trace and the memory image, each into a buffer of its own.
 fn load_trace(buffer: &mut [u8; TRACE]) -> Got {
-    load(1, buffer)
+    files::load(1, buffer)
 }
 
 fn load_memory(buffer: &mut [u8; MEMORY]) -> Got {
-    load(2, buffer)
+    files::load(2, buffer)
 }
 
 // The events of a trace in one piece.

@@ -27,18 +27,10 @@ fn write_past(most: usize, text: &[u8; TEXT], waiting: usize) -> usize {
     0
 }
 
-// The line of a refusal: with its block where the reason is a block's, 17 to 22.
-fn refusal(number: u32, block: usize, text: &mut [u8; TEXT]) -> usize {
-    if number <= answer::EVENT {
-        return day_reports::counted(text, 0, b"refused", number as u64, block as u64);
-    }
-    replies::numbered(text, 0, b"refused", number as u64)
-}
-
-// Writes it.
+// Writes the line of a refusal.
 pub(crate) fn refused(number: u32, block: usize) {
     let mut text = [0u8; TEXT];
-    let end = refusal(number, block, &mut text);
+    let end = day_reports::refused(&mut text, 0, number, block as u64);
     write_past(0, &text, end);
 }
 

@@ -2,8 +2,8 @@
 use borrow.Author.Needs.{needs}
 use Prim.Native.Nat.{_≤_}
 use lib.ListN.{length}
-use Rattle.files.proofs.temporary.folder.Statement.{statement}
-use Rattle.files.proofs.temporary.folder.Tie as tie
+use Rattle.new_files.proofs.temporary.folder.Statement.{statement}
+use Rattle.new_files.proofs.temporary.folder.Tie as tie
 
 abbrev Inv-loop : tie.InvT-loop
 Inv-loop path n₀ n = n ≤ length path

@@ -2,8 +2,8 @@ use borrow.Author.Needs.{needs}
 use native.Mathlib.Omega.{arith}
 use Prim.Native.Nat.{_-_}
 use lib.ListN.{length}
-use Rattle.files.proofs.verifying.has.Statement.{statement}
-use Rattle.files.proofs.verifying.has.Tie as tie
+use Rattle.new_files.proofs.verifying.has.Statement.{statement}
+use Rattle.new_files.proofs.verifying.has.Tie as tie
 
 abbrev Inv-loop : tie.InvT-loop
 Inv-loop fd bytes chunk₀ at₀ chunk at = Unit

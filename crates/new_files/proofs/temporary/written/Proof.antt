@@ -1,8 +1,8 @@
 -- A name after the other is tried. Assumes nothing.
 use borrow.Author.Needs.{needs}
 use Prim.Native.Nat.{_≤_, _-_}
-use Rattle.files.proofs.temporary.written.Statement.{statement}
-use Rattle.files.proofs.temporary.written.Tie as tie
+use Rattle.new_files.proofs.temporary.written.Statement.{statement}
+use Rattle.new_files.proofs.temporary.written.Tie as tie
 
 abbrev Inv-loop : tie.InvT-loop
 Inv-loop path other bytes name₀ i₀ name i = i ≤ 110
