@@ -1,5 +1,5 @@
-// A file that an argument of the program names, read whole. What the system's calls do is assumed; proved is that each function is
-// safe and ends, and what its contract says of its answer.
+// A file that an argument of the program names, read whole. What the system's calls do is assumed; proved is that each
+// function is safe and ends, and what its contract says of its answer.
 mod reading;
 
 ghost use Prim.Native.Nat.{_≤_};
