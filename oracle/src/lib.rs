@@ -18,6 +18,7 @@ pub mod program;
 pub mod programs;
 pub mod random;
 pub mod recording;
+pub mod runs;
 pub mod scripts;
 pub mod tables;
 pub mod tally;

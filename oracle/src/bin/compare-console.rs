@@ -2,6 +2,7 @@
 
 use oracle::compare::{self, Script};
 use oracle::random::Random;
+use oracle::runs;
 use oracle::scripts;
 use oracle::tally::Tally;
 use std::path::Path;
@@ -28,14 +29,8 @@ fn main() -> ExitCode {
             return ExitCode::FAILURE;
         }
     }
-    print!("{tally}");
-    let missing = tally.missing(|kind| least(kind, calls));
-    if !missing.is_empty() {
-        println!("compare-console: met too seldom: {}", missing.join("; "));
-        return ExitCode::FAILURE;
-    }
-    println!("compare-console: no difference");
-    ExitCode::SUCCESS
+    let least = |kind: &str| least(kind, calls);
+    runs::end("compare-console", &tally, least, "no difference")
 }
 
 /// How often a kind must be met: in a shorter comparison by its share.
@@ -46,15 +41,8 @@ fn least(kind: &str, calls: usize) -> usize {
 
 fn arguments(words: &[String]) -> Option<(&str, usize, u64)> {
     let (path, options) = words.split_first()?;
-    let (mut calls, mut seed) = (CALLS, 1);
-    for option in options.chunks(2) {
-        match option {
-            [name, value] if name == "--calls" => calls = value.parse().ok()?,
-            [name, value] if name == "--seed" => seed = value.parse().ok()?,
-            _ => return None,
-        }
-    }
-    Some((path, calls, seed))
+    let [calls, seed] = runs::options(options, ["--calls", "--seed"], [CALLS as u64, 1])?;
+    Some((path, calls as usize, seed))
 }
 
 /// The scripts made by hand, then random ones joined to long ones until there are enough lines.

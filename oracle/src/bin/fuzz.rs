@@ -2,11 +2,11 @@
 
 use oracle::compare::{self, Script};
 use oracle::random::Random;
+use oracle::runs;
 use oracle::scripts;
 use oracle::tally::Tally;
 use std::path::Path;
 use std::process::ExitCode;
-use std::time::{Duration, Instant, SystemTime, UNIX_EPOCH};
 
 /// Scripts joined in one run of the program.
 const SCRIPTS_A_RUN: usize = 20;
@@ -19,13 +19,9 @@ fn main() -> ExitCode {
     let Ok(seconds) = seconds.parse() else {
         return usage();
     };
-    let end = Instant::now() + Duration::from_secs(seconds);
-    let clock = SystemTime::now().duration_since(UNIX_EPOCH);
-    let first_seed = clock.map_or(0, |time| time.as_nanos() as u64);
     let mut tally = Tally::default();
-    let mut runs = 0;
-    while Instant::now() < end {
-        let seed = first_seed.wrapping_add(runs);
+    let mut made = 0;
+    for seed in runs::fresh_seeds(seconds) {
         let mut random = Random::new(seed);
         let script: Script = (0..SCRIPTS_A_RUN)
             .flat_map(|_| scripts::random_script(&mut random))
@@ -35,9 +31,9 @@ fn main() -> ExitCode {
             println!("fuzz: differs at seed {seed}");
             return ExitCode::FAILURE;
         }
-        runs += 1;
+        made += 1;
     }
-    println!("{tally}fuzz: {runs} runs from seed {first_seed}, no difference");
+    println!("{tally}fuzz: {made} runs, no difference");
     ExitCode::SUCCESS
 }
 

@@ -10,6 +10,7 @@ mod vectors;
 
 use compare::Comparison;
 use oracle::random::Random;
+use oracle::runs;
 use oracle::tally::Tally;
 use std::process::ExitCode;
 
@@ -23,20 +24,12 @@ fn main() -> ExitCode {
         program: program.into(),
         tally: Tally::default(),
     };
-    match compare_all(&mut comparison) {
-        Ok(()) => print!("{}", comparison.tally),
-        Err(difference) => {
-            println!("{difference}\ncompare-frames: differs");
-            return ExitCode::FAILURE;
-        }
-    }
-    let missing = comparison.tally.missing(expected::least);
-    if !missing.is_empty() {
-        println!("compare-frames: met too seldom: {}", missing.join("; "));
+    if let Err(difference) = compare_all(&mut comparison) {
+        println!("{difference}\ncompare-frames: differs");
         return ExitCode::FAILURE;
     }
-    println!("compare-frames: no difference");
-    ExitCode::SUCCESS
+    let tally = &comparison.tally;
+    runs::end("compare-frames", tally, expected::least, "no difference")
 }
 
 fn compare_all(comparison: &mut Comparison) -> Result<(), String> {

@@ -16,6 +16,7 @@ use arrivals::Arrival;
 use claims::Mark;
 use history::History;
 use oracle::random::Random;
+use oracle::runs;
 use oracle::tally::Tally;
 use start::Start;
 use std::process::ExitCode;
@@ -32,14 +33,8 @@ fn main() -> ExitCode {
             return ExitCode::FAILURE;
         }
     }
-    print!("{tally}");
-    let missing = tally.missing(expected::least);
-    if !missing.is_empty() {
-        println!("histories: met too seldom: {}", missing.join("; "));
-        return ExitCode::FAILURE;
-    }
-    println!("histories: {} histories, every claim held", 2 * PAIRS);
-    ExitCode::SUCCESS
+    let said = format!("{} histories, every claim held", 2 * PAIRS);
+    runs::end("histories", &tally, expected::least, &said)
 }
 
 /// Two histories from one start with one sequence of frames.
