@@ -3,13 +3,18 @@
 use super::layout::{NEXT_ENABLE, VALID};
 use super::writer::Writer;
 
-pub fn in_a_small_window(writer: &mut Writer) {
+/// A new window in which a few descriptors are many.
+pub fn small_window(writer: &mut Writer) {
     let words = match writer.random.below(3) {
         0 => writer.random.between(16, 40),
         1 => writer.random.between(40, 120),
         _ => writer.random.between(400, 900),
     };
     writer.new_bench(4 * words as u32);
+}
+
+pub fn in_a_small_window(writer: &mut Writer) {
+    small_window(writer);
     writer.say("write 400 80000000");
     for _ in 0..writer.random.between(1, 6) {
         descriptor(writer);

@@ -13,6 +13,16 @@ pub fn along_a_chain(writer: &mut Writer) {
         1 => 65_536,
         _ => writer.random.between(512, 16_384) * 4,
     };
+    let chain = started_chain(writer, length);
+    writer.observe();
+    for _ in 0..writer.random.between(30, 90) {
+        step(writer, &chain);
+    }
+    writer.observe();
+}
+
+/// A new window of this length with a chain in it, from whose first place sending runs.
+pub fn started_chain(writer: &mut Writer, length: usize) -> Vec<Place> {
     writer.new_bench(length as u32);
     let count = writer.random.between(1, (length / 40).min(12));
     let chain = chain(writer, count);
@@ -21,15 +31,11 @@ pub fn along_a_chain(writer: &mut Writer) {
         writer.marks.push(place.address);
     }
     start(writer, chain[0].address);
-    writer.observe();
-    for _ in 0..writer.random.between(30, 90) {
-        step(writer, &chain);
-    }
-    writer.observe();
+    chain
 }
 
 /// Descriptors from the window's start or up to its end, buffers anywhere behind or before.
-pub fn chain(writer: &mut Writer, count: usize) -> Vec<Place> {
+fn chain(writer: &mut Writer, count: usize) -> Vec<Place> {
     let at_end = writer.random.once_in(2);
     let table = match at_end {
         true => writer.end().wrapping_sub(16 * count as u32),

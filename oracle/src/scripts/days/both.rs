@@ -1,16 +1,11 @@
 //! Both engines at work in a small window full of descriptors over each other.
 
 use super::{grant, send};
-use crate::scripts::chaos::{descriptor, engine};
+use crate::scripts::chaos::{descriptor, engine, small_window};
 use crate::scripts::writer::Writer;
 
 pub fn in_a_small_window(writer: &mut Writer) {
-    let words = match writer.random.below(3) {
-        0 => writer.random.between(16, 40),
-        1 => writer.random.between(40, 120),
-        _ => writer.random.between(400, 900),
-    };
-    writer.new_bench(4 * words as u32);
+    small_window(writer);
     for _ in 0..writer.random.between(1, 8) {
         descriptor(writer);
     }

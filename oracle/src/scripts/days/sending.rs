@@ -2,7 +2,7 @@
 
 use super::{grant, send};
 use crate::scripts::layout::Place;
-use crate::scripts::sending::{chain, start};
+use crate::scripts::sending::{start, started_chain};
 use crate::scripts::writer::Writer;
 
 pub fn along_a_chain(writer: &mut Writer) {
@@ -11,14 +11,7 @@ pub fn along_a_chain(writer: &mut Writer) {
         1 => writer.random.between(512, 16_384) * 4,
         _ => writer.random.between(400, 2_000) * 4,
     };
-    writer.new_bench(length as u32);
-    let count = writer.random.between(1, (length / 40).min(12));
-    let chain = chain(writer, count);
-    for place in &chain {
-        place.write(writer);
-        writer.marks.push(place.address);
-    }
-    start(writer, chain[0].address);
+    let chain = started_chain(writer, length);
     for _ in 0..writer.random.between(8, 60) {
         step(writer, &chain);
     }

@@ -44,6 +44,20 @@ fn trace(events: &[Event]) -> Vec<u8> {
     block::all(&[&header[..], &Event::list(events)].concat())
 }
 
+/// What the events answer, lent the memory above and this output.
+fn answers_of(events: &[Event], output: &mut [u8]) -> Vec<u32> {
+    let mut room = vec![0; Event::list(events).len()];
+    let mut answers = vec![99; events.len()];
+    replay(
+        &trace(events),
+        &mut room,
+        &mut memory(),
+        output,
+        &mut answers,
+    );
+    answers
+}
+
 #[test]
 fn a_day_by_hand() {
     let trace = trace(&day());
@@ -128,18 +142,9 @@ fn memory_of_another_length_is_no_refusal() {
 #[test]
 fn a_short_output_answers_each_send() {
     let events = [Event::Send, Event::Send];
-    let mut room = [0; 2];
-    let mut answers = [99; 2];
     for (length, number) in [(0, 9), (1_517, 9), (1_518, 3)] {
         let mut output = vec![0xDD; length];
-        let mut memory = memory();
-        replay(
-            &trace(&events),
-            &mut room,
-            &mut memory,
-            &mut output,
-            &mut answers,
-        );
+        let answers = answers_of(&events, &mut output);
         assert_eq!(answers, [number; 2]);
         assert!(output.iter().all(|byte| *byte == 0xDD));
     }
@@ -147,7 +152,6 @@ fn a_short_output_answers_each_send() {
 
 #[test]
 fn each_send_is_lent_the_whole_output() {
-    let memory_before = memory();
     let write = |offset, value| Event::Write { offset, value };
     let events = [
         write(0x3C, 16),
@@ -157,17 +161,7 @@ fn each_send_is_lent_the_whole_output() {
         Event::Grant { address: 16 },
         Event::Send,
     ];
-    let mut room = [0; 40];
-    let mut answers = [99; 5];
     let mut output = vec![0xDD; 1_518];
-    let mut memory = memory_before;
-    replay(
-        &trace(&events),
-        &mut room,
-        &mut memory,
-        &mut output,
-        &mut answers,
-    );
-    assert_eq!(answers, [0; 5]);
+    assert_eq!(answers_of(&events, &mut output), [0; 5]);
     assert_eq!(output[64..128], [0xDD; 64]);
 }
