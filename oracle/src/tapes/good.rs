@@ -57,6 +57,20 @@ pub fn good(random: &mut Random) -> Tape {
     Tape::new(&format!("{shape:?}"), header, image, &events)
 }
 
+/// Frames whose length takes three bytes, and one whose length takes four; among other events.
+pub fn long_frames(random: &mut Random) -> Vec<Tape> {
+    [65_535, 65_536, 70_000, 0x100_0000, 0x100_0001]
+        .into_iter()
+        .map(|length| {
+            let mut day = day(random);
+            let bytes = random.bytes(length);
+            let place = random.below(day.events.len() + 1);
+            day.events.insert(place, Event::Frame { bytes });
+            Tape::new("long frame", day.header, day.image, &day.events)
+        })
+        .collect()
+}
+
 /// A random day, now and then with other events between.
 fn day(random: &mut Random) -> Recording {
     let script = days::random_day(random).join(&b'\n');

@@ -33,6 +33,7 @@ fn good_traces_are_good_and_of_every_shape() {
 #[test]
 fn each_fault_is_told_by_its_number() {
     let mut random = Random::new(12);
+    let names: Vec<String> = fault_names().collect();
     for _ in 0..400 {
         let tape = good(&mut random);
         for (fault, number) in FAULTS.into_iter().zip([22, 21, 20, 18, 19, 17]) {
@@ -41,6 +42,7 @@ fn each_fault_is_told_by_its_number() {
             let Some(name) = fault.put(&mut tape, place, &mut random) else {
                 continue;
             };
+            assert!(names.contains(&name), "{name}");
             let found = trace::content(&tape.bytes).err();
             let found = found.unwrap_or_else(|| panic!("{name} is no fault"));
             if name.contains("behind the last block") {

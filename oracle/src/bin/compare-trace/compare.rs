@@ -4,7 +4,7 @@ use crate::difference::{self, BEFORE};
 use crate::{expected, found, library};
 use oracle::tally::Tally;
 use oracle::tapes::{Lent, List, Tape};
-use oracle::trace;
+use oracle::trace::{self, block, Header, Reading, BLOCKS_MOST};
 use oracle::{hex, numbers};
 
 /// The most bytes of a trace or list that a report shows.
@@ -24,12 +24,16 @@ impl Comparison {
         library::read(&tape.bytes, &mut got_room, &mut got);
         self.tally.met(expected::number_name(wanted.number));
         self.tally.met(expected::call_name("read", wanted.number));
-        let blocks = tape.bytes.len().div_ceil(512);
+        let blocks = tape.bytes.len().div_ceil(block::SIZE);
         if let Some(name) = expected::place_name(wanted.number, wanted.block, blocks) {
             self.tally.met(name);
+            if room.is_empty() {
+                self.tally.met(expected::NO_ROOM);
+            }
         }
         difference::found(&found::READING, &found::reading(&wanted), &got)
             .and_then(|()| difference::buffer("room", room, &wanted_room, &got_room))
+            .and_then(|()| self.written_again(tape, &wanted, &got_room))
             .map_err(|text| {
                 format!(
                     "reading {} ({} bytes), lent a room of {}\n{text}\nthe trace: {}",
@@ -39,6 +43,26 @@ impl Comparison {
                     shown(&tape.bytes)
                 )
             })
+    }
+
+    /// "A trace that is read is, byte for byte, what is written of its window and events."
+    fn written_again(&mut self, tape: &Tape, read: &Reading, room: &[u8]) -> Result<(), String> {
+        if read.number != numbers::DONE {
+            return Ok(());
+        }
+        if room.len() as u64 > read.bytes {
+            self.tally.met(expected::LONGER_ROOM);
+        }
+        self.tally.met(expected::WRITTEN_AGAIN);
+        let events = &room[..read.bytes as usize];
+        let before = vec![0xB6; tape.bytes.len()];
+        let mut trace = before.clone();
+        let mut got = [BEFORE; found::WRITING.len()];
+        library::write(read.base, read.window, events, &mut trace, &mut got);
+        let blocks = (tape.bytes.len() / block::SIZE) as u64;
+        difference::found(&found::WRITING, &[numbers::DONE.into(), blocks], &got)
+            .and_then(|()| difference::buffer("the trace", &before, &tape.bytes, &trace))
+            .map_err(|text| format!("written again of what was read: {text}"))
     }
 
     /// Replays a trace.
@@ -62,8 +86,20 @@ impl Comparison {
         );
         self.tally.met(expected::number_name(wanted.number));
         self.tally.met(expected::call_name("replay", wanted.number));
-        if wanted.number == numbers::DONE {
-            self.answers(&left.answers[..wanted.events as usize]);
+        match wanted.number {
+            numbers::DONE => {
+                self.answers(&left.answers[..wanted.events as usize]);
+                if lent.answers.len() as u64 > wanted.events {
+                    self.tally.met(expected::LONGER_LIST);
+                }
+            }
+            numbers::READING_ROOM if few_answers(tape, lent) => {
+                self.tally.met(expected::ROOM_BEFORE_ANSWERS);
+            }
+            numbers::BLOCK_LENGTH..=numbers::BLOCK_EVENT if lent.answers.is_empty() => {
+                self.tally.met(expected::NO_ANSWERS);
+            }
+            _ => {}
         }
         difference::found(&found::REPLAY, &found::replay(&wanted), &got)
             .and_then(|()| {
@@ -94,6 +130,27 @@ impl Comparison {
         }
     }
 
+    /// "What is written reads back the same."
+    fn read_back(&mut self, list: &List, trace: &[u8]) -> Result<(), String> {
+        self.tally.met(expected::READ_BACK);
+        let before = vec![0xB6; list.events.len()];
+        let mut events = before.clone();
+        let mut got = [BEFORE; found::READING.len()];
+        library::read(trace, &mut events, &mut got);
+        let count = trace::starts(&list.events).map_or(0, |starts| starts.len());
+        let wanted = Reading {
+            number: numbers::DONE,
+            block: 0,
+            base: list.base,
+            window: list.window,
+            bytes: list.events.len() as u64,
+            events: count as u64,
+        };
+        difference::found(&found::READING, &found::reading(&wanted), &got)
+            .and_then(|()| difference::buffer("the events", &before, &list.events, &events))
+            .map_err(|text| format!("read back of what was written: {text}"))
+    }
+
     /// Writes a list.
     pub fn write(&mut self, list: &List) -> Result<(), String> {
         let List {
@@ -110,8 +167,18 @@ impl Comparison {
         self.tally.met(expected::number_name(wanted.number));
         self.tally.met(expected::call_name("write", wanted.number));
         self.tally.met(expected::damage_name(damage));
+        for number in later_refusals(list, wanted.number) {
+            self.tally.met(expected::order_name(wanted.number, number));
+        }
         difference::found(&found::WRITING, &found::writing(&wanted), &got)
             .and_then(|()| difference::buffer("room", room, &wanted_room, &got_room))
+            .and_then(|()| match wanted.number {
+                numbers::DONE => {
+                    let trace = &got_room[..block::SIZE * wanted.blocks as usize];
+                    self.read_back(list, trace)
+                }
+                _ => Ok(()),
+            })
             .map_err(|text| {
                 format!(
                     "writing base {base:x} hex, window {window}, {} bytes of events (damage: \
@@ -122,6 +189,30 @@ impl Comparison {
                 )
             })
     }
+}
+
+/// Whether the answer list of a replay is short too.
+fn few_answers(tape: &Tape, lent: &Lent) -> bool {
+    trace::content(&tape.bytes).is_ok_and(|content| (lent.answers.len() as u64) < content.count)
+}
+
+/// The refusals of a writing that stand behind the one that was given, and would have been too.
+fn later_refusals(list: &List, given: u32) -> Vec<u32> {
+    let blocks = (Header::SIZE + list.events.len()).div_ceil(block::DATA_MOST);
+    let window = Header::allowed(list.base, list.window).is_none();
+    let later = [
+        (numbers::WRITING_WINDOW, window),
+        (numbers::BLOCKS_OVER, blocks > BLOCKS_MOST),
+        (
+            numbers::WRITING_ROOM,
+            block::SIZE * blocks > list.room.len(),
+        ),
+    ];
+    later
+        .into_iter()
+        .filter(|(number, too)| *too && given != numbers::DONE && *number > given)
+        .map(|(number, _)| number)
+        .collect()
 }
 
 /// Bytes as digits, if they are not too many; a seed gives those again.

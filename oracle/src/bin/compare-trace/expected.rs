@@ -1,12 +1,40 @@
 //! What a whole comparison must have met, and how often.
 
 use oracle::tally::Tally;
-use oracle::tapes::{DAMAGES, SHAPES};
+use oracle::tapes::{fault_names, DAMAGES, FEATURES, SHAPES};
 
 /// How often each number and each answer of a replay must be met in a whole comparison.
 const LEAST: usize = 100;
 /// And each reason in a first, middle and last block.
 const PLACE_LEAST: usize = 30;
+const FEW: usize = 10;
+
+/// What is lent and stays; refusals of which a later one would be right too; both ways round.
+pub const LONGER_ROOM: &str = "read: room left over";
+pub const LONGER_LIST: &str = "replay: answer list left over";
+pub const NO_ROOM: &str = "read: bad block, and no room at all";
+pub const NO_ANSWERS: &str = "replay: bad block, and no answer list at all";
+pub const ROOM_BEFORE_ANSWERS: &str = "replay: 23, and too few answers";
+pub const WRITTEN_AGAIN: &str = "read, and written again";
+pub const READ_BACK: &str = "written, and read back";
+
+const SINGLE_KINDS: [&str; 7] = [
+    LONGER_ROOM,
+    LONGER_LIST,
+    NO_ROOM,
+    NO_ANSWERS,
+    ROOM_BEFORE_ANSWERS,
+    WRITTEN_AGAIN,
+    READ_BACK,
+];
+
+pub fn order_name(given: u32, later: u32) -> String {
+    format!("write: {given}, where {later} would be right too")
+}
+
+pub fn feature_name(feature: &str) -> String {
+    format!("good trace: {feature}")
+}
 
 pub fn number_name(number: u32) -> String {
     format!("number {number:>2}")
@@ -51,6 +79,9 @@ const CALLS: [(&str, &[u32]); 3] = [
 ];
 /// What the events of a replay can answer.
 const ANSWERS: [u32; 14] = [0, 2, 3, 4, 5, 6, 7, 8, 9, 11, 12, 13, 14, 15];
+
+/// Of the refusals of a writing the earlier is given; those by 27 take 33 million bytes.
+const WRITE_ORDERS: [(u32, u32); 6] = [(25, 26), (25, 27), (25, 28), (26, 27), (26, 28), (27, 28)];
 
 /// The places where a reason can stand: a short block is the last, a fill that of the last.
 const PLACES: [(u32, &[&str]); 6] = [
@@ -110,22 +141,46 @@ pub fn expect(tally: &mut Tally) {
     for kind in KINDS {
         tally.expect(kind_name(kind));
     }
+    for (given, later) in WRITE_ORDERS {
+        tally.expect(order_name(given, later));
+    }
+    for kind in SINGLE_KINDS {
+        tally.expect(kind);
+    }
+    for name in fault_names() {
+        tally.expect(kind_name(&format!("one fault: {name}")));
+    }
+    for feature in FEATURES {
+        tally.expect(feature_name(feature));
+    }
     for shape in SHAPES {
         tally.expect(kind_name(&format!("good {shape:?}")));
     }
 }
 
+/// What is met less often, by the front of its name.
+const FEWER: [&str; 7] = [
+    "trace: good ",
+    "list damage",
+    "good trace",
+    "write: ",
+    "read: bad",
+    "replay: bad",
+    "replay: 23",
+];
+
 /// How often a kind must be met in a whole comparison.
 pub fn least(kind: &str) -> usize {
-    let is = |front: &str| kind.starts_with(front);
-    if kind == number_name(27) || kind == call_name("write", 27) {
+    // What takes 33 million bytes, or a frame longer than any of a day.
+    let large = kind.contains("27") || kind.ends_with("65,535 bytes");
+    if large {
         1
-    } else if kind.ends_with(" block") && is("read ") {
+    } else if FEWER.iter().any(|front| kind.starts_with(front)) {
+        FEW
+    } else if kind.starts_with("trace: ") {
+        1
+    } else if kind.starts_with("read ") && kind.ends_with(" block") {
         PLACE_LEAST
-    } else if is("trace: good ") || is("list damage") {
-        10
-    } else if is("trace: ") {
-        1
     } else {
         LEAST
     }

@@ -1,4 +1,4 @@
-//! The longest trace there is, and one longer by a byte or a block.
+//! The longest trace there is, and ones longer by a byte or a block.
 
 use crate::compare::Comparison;
 use oracle::tapes::{List, Tape};
@@ -7,8 +7,8 @@ use oracle::trace::{block, write, Event, Header, BLOCKS_MOST};
 /// The most bytes of events that a trace can hold.
 const MOST: usize = BLOCKS_MOST * block::DATA_MOST - Header::SIZE;
 
-/// Lists of sends of the most bytes and of one more, written; the trace read again, and with one
-/// block too many.
+/// Lists of the most bytes and of one more, written; the trace read again, and with one block too
+/// many. The refusals before that of too many blocks come first.
 pub fn compare(comparison: &mut Comparison) -> Result<(), String> {
     let mut list = List {
         base: 0,
@@ -20,6 +20,12 @@ pub fn compare(comparison: &mut Comparison) -> Result<(), String> {
     };
     comparison.write(&list)?;
     list.room.clear();
+    comparison.write(&list)?;
+    list.window = 60;
+    comparison.write(&list)?;
+    list.events[MOST] = 5;
+    comparison.write(&list)?;
+    list.window = 64;
     comparison.write(&list)?;
     list.events.pop();
     list.room = vec![0xA5; BLOCKS_MOST * block::SIZE];

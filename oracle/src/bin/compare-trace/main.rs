@@ -41,12 +41,14 @@ impl runs::Comparison for Comparison {
         &mut self.tally
     }
 
-    /// Events and headers cut at every place, every fault with every other, and the longest traces.
+    /// Events and headers cut at every place, every fault with every other, frames whose length
+    /// takes more than two bytes, and the longest traces.
     fn made_by_hand(&mut self) -> Result<(), String> {
         let mut random = Random::new(0x7A9E);
         let mut tapes = tapes::cut_headers(&mut random);
         tapes.extend(tapes::cut_events(&mut random));
         tapes.extend(tapes::pairs_of_faults(&mut random));
+        tapes.extend(tapes::long_frames(&mut random));
         for (place, tape) in tapes.iter().enumerate() {
             trace(self, tape, &mut random)
                 .map_err(|difference| format!("trace {place} made by hand\n{difference}"))?;
@@ -68,6 +70,9 @@ impl runs::Comparison for Comparison {
 fn trace(comparison: &mut Comparison, tape: &Tape, random: &mut Random) -> Result<(), String> {
     comparison.tally.met("traces");
     comparison.tally.met(expected::kind_name(&tape.kind));
+    for feature in tapes::features(&tape.bytes) {
+        comparison.tally.met(expected::feature_name(feature));
+    }
     let lent = Lent::new(tape, random);
     comparison.read(tape, &lent.room)?;
     comparison.replay(tape, &Lent::new(tape, random))

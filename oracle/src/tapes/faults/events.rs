@@ -4,6 +4,19 @@ use crate::random::Random;
 use crate::tapes::Tape;
 use crate::trace::block;
 
+pub const NAMES: &[&str] = &[
+    "first byte 0",
+    "first byte 5",
+    "first byte 255",
+    "first byte unknown",
+    "cut",
+    "begun",
+    "base no multiple of 4",
+    "window no multiple of 4",
+    "window under 64",
+    "window past the last address",
+];
+
 pub fn event(tape: &mut Tape, place: usize, random: &mut Random) -> Option<&'static str> {
     let last = place + 1 == tape.blocks();
     match random.below(6) {

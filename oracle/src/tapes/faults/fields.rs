@@ -4,6 +4,8 @@ use crate::random::Random;
 use crate::tapes::Tape;
 use crate::trace::block;
 
+pub const FILLS: &[&str] = &["first", "last", "any"];
+
 /// A byte of the zero fill; only a part-filled last block has one.
 pub fn fill(tape: &mut Tape, place: usize, random: &mut Random) -> Option<&'static str> {
     let used = tape.used(place);
@@ -19,6 +21,18 @@ pub fn fill(tape: &mut Tape, place: usize, random: &mut Random) -> Option<&'stat
     tape.block(place)[block::DATA][byte] = random.between(1, 255) as u8;
     Some(name)
 }
+
+pub const USED: &[&str] = &[
+    "0",
+    "505",
+    "65535",
+    "over 504",
+    "one bit or more over",
+    "503 not the last",
+    "1 not the last",
+    "part-filled not the last",
+    "0 or over 504",
+];
 
 pub fn used(tape: &mut Tape, place: usize, random: &mut Random) -> &'static str {
     let last = place + 1 == tape.blocks();
@@ -41,6 +55,15 @@ pub fn used(tape: &mut Tape, place: usize, random: &mut Random) -> &'static str 
     name
 }
 
+pub const NUMBERS: &[&str] = &[
+    "one more",
+    "one less",
+    "one bit off",
+    "other byte order",
+    "256 more",
+    "any",
+];
+
 pub fn number(tape: &mut Tape, place: usize, random: &mut Random) -> &'static str {
     let right = place as u16;
     let (number, name) = match random.below(6) {
@@ -56,6 +79,22 @@ pub fn number(tape: &mut Tape, place: usize, random: &mut Random) -> &'static st
     tape.put_number(place, number);
     name
 }
+
+pub const CHECKS: &[&str] = &[
+    "one more",
+    "one less",
+    "65521 more",
+    "65536 more",
+    "upper bytes",
+    "one bit off",
+    "other byte order",
+    "position for weight",
+    "modulo 65536",
+    "not reduced",
+    "of the data",
+    "any",
+    "without weights",
+];
 
 pub fn check(tape: &mut Tape, place: usize, random: &mut Random) -> &'static str {
     let block = tape.block(place);

@@ -28,6 +28,22 @@ pub const FAULTS: [Fault; 6] = [
     Fault::Length,
 ];
 
+/// The names of all that `put` can do.
+pub fn names() -> impl Iterator<Item = String> {
+    let of = [
+        (Fault::Event, events::NAMES),
+        (Fault::Fill, fields::FILLS),
+        (Fault::Used, fields::USED),
+        (Fault::Number, fields::NUMBERS),
+        (Fault::Check, fields::CHECKS),
+        (Fault::Length, LENGTHS),
+    ];
+    of.into_iter()
+        .flat_map(|(fault, names)| names.iter().map(move |name| format!("{fault:?} {name}")))
+}
+
+const LENGTHS: &[&str] = &["empty", "bytes behind the last block", "cut block"];
+
 impl Fault {
     /// Puts a fault of this kind into a block. Gives its name, or nothing where it cannot be: then
     /// the trace is as it was.
