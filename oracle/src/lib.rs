@@ -8,6 +8,7 @@ pub mod check;
 pub mod compare;
 pub mod console;
 pub mod device;
+pub mod files;
 pub mod frames;
 pub mod groups;
 pub mod hash;

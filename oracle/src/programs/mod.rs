@@ -7,20 +7,6 @@ mod tests;
 
 use crate::trace::block;
 
-/// The trace that each program must have room for, in blocks and in bytes.
-pub const BLOCKS_LEAST: usize = 4_096;
-pub const ROOM_LEAST: usize = BLOCKS_LEAST * block::SIZE;
-
-/// How much room a program has is its own affair; it is taken to have no more than this.
-pub const ROOM_MOST: usize = 3 * ROOM_LEAST;
-
-/// Whether a trace of this length is over a program's room. No length between what each must have
-/// and what none has is ever asked.
-fn over_room(length: usize) -> bool {
-    let over = length > ROOM_MOST;
-    assert!(
-        over || length <= ROOM_LEAST,
-        "nothing is known of a trace of {length} bytes"
-    );
-    over
-}
+/// "Both have room for traces of 4,096 blocks."
+pub const BLOCKS_MOST: usize = 4_096;
+pub const ROOM: usize = BLOCKS_MOST * block::SIZE;

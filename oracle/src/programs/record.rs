@@ -1,8 +1,10 @@
 //! `record TRACE MEMORY < SCRIPT`.
 
-use super::over_room;
+use super::ROOM;
+use crate::files::{Contents, Entry};
 use crate::numbers::WRITING_ROOM;
 use crate::recording;
+use crate::trace::block;
 
 pub const USAGE: &str = "usage: record TRACE MEMORY < SCRIPT\n";
 
@@ -17,6 +19,37 @@ pub struct Files {
     pub memory: Vec<u8>,
 }
 
+/// What the program writes, and what is in the folder behind it.
+pub struct Ended {
+    pub output: String,
+    pub after: Contents,
+}
+
+/// What the program does with its arguments and a script, in the order of its tests.
+pub fn run(arguments: &[String], script: &[u8], before: &Contents) -> Ended {
+    // "Whatever it says, no file is made or changed unless all goes well."
+    let ended = |output: String| Ended {
+        output,
+        after: before.clone(),
+    };
+    let [trace, memory] = arguments else {
+        return ended(USAGE.to_string());
+    };
+    let Recorded { line, files } = record(script);
+    let Some(files) = files else {
+        return ended(line);
+    };
+    let names = [trace, memory].map(String::as_str);
+    match make(before, names, &files) {
+        Ok(after) => Ended {
+            output: line,
+            after,
+        },
+        // "`error NAME`, the first that cannot be made."
+        Err(wrong) => ended(format!("error {}\n", names[wrong])),
+    }
+}
+
 /// What becomes of a script if both files can be made.
 pub fn record(script: &[u8]) -> Recorded {
     let recording = match recording::of(script) {
@@ -24,10 +57,10 @@ pub fn record(script: &[u8]) -> Recorded {
         Err(line) => return without_files(format!("error {line}\n")),
     };
     let trace = recording.trace();
-    if over_room(trace.len()) {
+    if trace.len() > ROOM {
         return without_files(format!("refused {WRITING_ROOM}\n"));
     }
-    let (events, blocks) = (recording.events.len(), trace.len() / 512);
+    let (events, blocks) = (recording.events.len(), trace.len() / block::SIZE);
     Recorded {
         line: format!("recorded {events} {blocks}\n"),
         files: Some(Files {
@@ -39,4 +72,22 @@ pub fn record(script: &[u8]) -> Recorded {
 
 fn without_files(line: String) -> Recorded {
     Recorded { line, files: None }
+}
+
+/// The folder with both files made, or which of the names is the first that cannot be.
+pub fn make(before: &Contents, names: [&str; 2], files: &Files) -> Result<Contents, usize> {
+    let bytes = [&files.trace[..], &files.memory];
+    let mut after = before.clone();
+    for (place, name) in names.iter().enumerate() {
+        let fits = before.longest.is_none_or(|most| bytes[place].len() <= most);
+        let room = before.room_for(name).filter(|_| fits).ok_or(place)?;
+        after.put(room, Entry::File(bytes[place].to_vec()));
+    }
+    // "It makes both files": two names of one place are not two files, nor are a name and one
+    // behind it. Then the first can be made, and the second cannot be made beside it.
+    let made = |place: usize| after.read(names[place]) == Some(bytes[place]);
+    match made(0) && made(1) {
+        true => Ok(after),
+        false => Err(1),
+    }
 }

@@ -1,7 +1,8 @@
 //! `replay TRACE MEMORY`.
 
-use super::over_room;
+use super::ROOM;
 use crate::device::Bench;
+use crate::files::Contents;
 use crate::numbers::READING_ROOM;
 use crate::trace::{self, Answer, Content, Event};
 use crate::{check, hex};
@@ -15,11 +16,23 @@ pub const MEMORY_MOST: usize = 98_312;
 /// The output that each send is lent: enough for every one.
 const OUTPUT: usize = 1_518;
 
+/// What the program writes, in the order of its tests.
+pub fn run(arguments: &[String], folder: &Contents) -> String {
+    let [trace, memory] = arguments else {
+        return USAGE.to_string();
+    };
+    // "`error NAME`, the first that cannot be opened or read."
+    match (folder.read(trace), folder.read(memory)) {
+        (None, _) => format!("error {trace}\n"),
+        (_, None) => format!("error {memory}\n"),
+        (Some(trace), Some(memory)) => output(trace, memory),
+    }
+}
+
 /// The whole output for two files that can be read.
 pub fn output(trace: &[u8], memory: &[u8]) -> String {
-    // "A file that is longer than the program's room is refused by the number for too little room,
-    // whatever is in it."
-    if over_room(trace.len()) {
+    // "A trace that is longer than the program's room is refused by 23, whatever is in it."
+    if trace.len() > ROOM {
         return format!("refused {READING_ROOM}\n");
     }
     match trace::content(trace) {

@@ -1,7 +1,10 @@
 //! Whole outputs by hand.
 
-use super::{record::record, replay::output, ROOM_MOST};
+use super::record::{make, record, Files};
+use super::replay::output;
+use super::{record, replay, BLOCKS_MOST, ROOM};
 use crate::console;
+use crate::files::{Contents, Entry};
 use crate::random::Random;
 use crate::recording;
 use crate::scripts::days::random_day;
@@ -51,7 +54,124 @@ fn refusals() {
     assert!(record(b"").files.is_none());
     assert_eq!(output(&[], &[]), "refused 17 0\n");
     assert_eq!(output(&[0; 512], &[]), "refused 20 0\n");
-    assert_eq!(output(&vec![0; ROOM_MOST + 1], &[]), "refused 23\n");
+    // Block 0 of zeros has a used length of 0; a byte over the room comes before it.
+    assert_eq!(output(&vec![0; ROOM], &[]), "refused 20 0\n");
+    assert_eq!(output(&vec![0; ROOM + 1], &[]), "refused 23\n");
+}
+
+#[test]
+fn the_room_of_a_recording() {
+    let script = |sends| format!("new 0 64\n{}", "send 1518\n".repeat(sends));
+    let most = 504 * BLOCKS_MOST - 6;
+    let recorded = record(script(most).as_bytes());
+    assert_eq!(recorded.line, format!("recorded {most} 4096\n"));
+    assert_eq!(record(script(most + 1).as_bytes()).line, "refused 28\n");
+}
+
+/// A folder and what is in it: a file, a folder, links to both.
+fn before() -> Contents {
+    let mut before = Contents::new("/home");
+    before.put("file", Entry::File(vec![9]));
+    before.put("folder", Entry::Folder);
+    before.put("to-file", Entry::Link("file".to_string()));
+    before.put("to-folder", Entry::Link("folder".to_string()));
+    before
+}
+
+#[test]
+fn both_files_are_made() {
+    let files = Files {
+        trace: vec![1],
+        memory: vec![2],
+    };
+    for (names, places) in [
+        (["a", "b"], ["a", "b"]),
+        (["file", "./b"], ["file", "b"]),
+        (["folder/a", "to-folder/b"], ["folder/a", "folder/b"]),
+        (["a", "folder/a"], ["a", "folder/a"]),
+        // A link is replaced by the file: then the two are two files.
+        (["file", "to-file"], ["file", "to-file"]),
+        (["to-file", "file"], ["to-file", "file"]),
+    ] {
+        let mut wanted = before();
+        wanted.put(places[0], Entry::File(vec![1]));
+        wanted.put(places[1], Entry::File(vec![2]));
+        assert_eq!(make(&before(), names, &files), Ok(wanted), "{names:?}");
+    }
+}
+
+#[test]
+fn the_first_that_cannot_be_made() {
+    let files = Files {
+        trace: vec![1],
+        memory: vec![2],
+    };
+    for (names, wrong) in [
+        (["", ""], 0),
+        (["folder", "none/b"], 0),
+        (["a", "none/b"], 1),
+        (["a", "folder"], 1),
+        // Two names of one place.
+        (["a", "a"], 1),
+        (["a", "./a"], 1),
+        (["folder/../file", "file"], 1),
+        (["to-folder/a", "folder/a"], 1),
+        (["/home/a", "a"], 1),
+        // One behind the other.
+        (["a", "a/b"], 1),
+        (["a/b", "a"], 0),
+        (["to-folder", "to-folder/b"], 1),
+        (["to-folder/b", "to-folder"], 1),
+    ] {
+        assert_eq!(make(&before(), names, &files), Err(wrong), "{names:?}");
+    }
+}
+
+#[test]
+fn files_that_are_too_long() {
+    let files = Files {
+        trace: vec![1; 512],
+        memory: vec![2; 600],
+    };
+    for (longest, made) in [(511, Err(0)), (512, Err(1)), (599, Err(1)), (600, Ok(()))] {
+        let mut before = before();
+        before.longest = Some(longest);
+        assert_eq!(make(&before, ["a", "b"], &files).map(|_| ()), made);
+        // What is wrong with the first comes before what is wrong with the second.
+        assert_eq!(make(&before, ["folder", "b"], &files).map(|_| ()), Err(0));
+    }
+}
+
+#[test]
+fn the_order_of_the_tests() {
+    let words = |words: &[&str]| {
+        words
+            .iter()
+            .map(|word| word.to_string())
+            .collect::<Vec<_>>()
+    };
+    let good = b"new 0 64";
+    let bad = b"old";
+    for (arguments, script, output) in [
+        (&["a"][..], &bad[..], record::USAGE),
+        (&["a", "b", "c"], good, record::USAGE),
+        (&["folder", "b"], bad, "error 1\n"),
+        (&["folder", "b"], good, "error folder\n"),
+        (&["a", "b"], good, "recorded 0 1\n"),
+    ] {
+        let ended = record::run(&words(arguments), script, &before());
+        assert_eq!(ended.output, output);
+        assert_eq!(ended.after == before(), !output.starts_with("recorded"));
+    }
+    for (arguments, output) in [
+        (&["none"][..], replay::USAGE),
+        (&["none", "file"], "error none\n"),
+        (&["file", "none"], "error none\n"),
+        (&["folder", "none"], "error folder\n"),
+        (&["to-file", "file"], "refused 17 0\n"),
+    ] {
+        assert_eq!(replay::run(&words(arguments), &before()), output);
+    }
 }
 
 #[test]

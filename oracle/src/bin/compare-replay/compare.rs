@@ -1,7 +1,9 @@
 //! Runs a program in the folder and compares all that it writes and leaves.
 
-use crate::folder::{self, Contents, Folder};
+use crate::folder::{self, Folder};
+use oracle::files::Contents;
 use oracle::program;
+use oracle::programs::{record, replay};
 use oracle::tally::Tally;
 use std::path::{Path, PathBuf};
 
@@ -23,7 +25,21 @@ pub struct Start<'input> {
 }
 
 impl Comparison {
-    /// Runs the program; its output and the folder behind it must be these.
+    /// Runs `record`: what it writes and leaves must be what the oracle says.
+    pub fn record(&self, start: &Start) -> Result<record::Ended, String> {
+        let ended = record::run(&start.arguments, start.input, &start.before);
+        self.run(&self.record, start, &ended.output, &ended.after)?;
+        Ok(ended)
+    }
+
+    /// Runs `replay`, which makes and changes nothing. Gives what it wrote.
+    pub fn replay(&self, start: &Start) -> Result<String, String> {
+        let output = replay::run(&start.arguments, &start.before);
+        self.run(&self.replay, start, &output, &start.before)?;
+        Ok(output)
+    }
+
+    /// Runs a program; its output and the folder behind it must be these.
     pub fn run(
         &self,
         program: &Path,
@@ -32,7 +48,14 @@ impl Comparison {
         after: &Contents,
     ) -> Result<(), String> {
         self.folder.set(&start.before);
-        let run = program::run_in(&self.folder.path, program, &start.arguments, &[start.input]);
+        let folder = self.folder.path();
+        let run = match start.before.longest {
+            None => program::run_in(folder, program, &start.arguments, &[start.input]),
+            Some(most) => {
+                let words = limited(program, &start.arguments, most);
+                program::run_in(folder, Path::new("/bin/sh"), &words, &[start.input])
+            }
+        };
         let told = |text: String| {
             let words = start.arguments.join("' '");
             format!("{} '{words}'\n{text}", program.display())
@@ -48,6 +71,15 @@ impl Comparison {
             None => Ok(()),
         }
     }
+}
+
+/// The words that let a shell start a program none of whose files can be longer, in units of 512
+/// bytes. It is not ended by that but told, as of a full disk.
+fn limited(program: &Path, arguments: &[String], most: usize) -> Vec<String> {
+    let command = format!("trap '' XFSZ; ulimit -f {}; exec \"$0\" \"$@\"", most / 512);
+    let program = program.to_string_lossy().into_owned();
+    let words = ["-c".to_string(), command, program];
+    words.into_iter().chain(arguments.iter().cloned()).collect()
 }
 
 /// The first line that differs.

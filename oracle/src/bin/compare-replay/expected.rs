@@ -2,10 +2,11 @@
 
 use crate::replays::MEMORIES;
 use crate::scripts::KINDS;
-use crate::targets::{Target, TARGETS};
+use crate::{large, lengths, limits, targets};
 use oracle::tally::Tally;
+use oracle::tapes::FEATURES;
 
-/// How often most kinds must be met in a whole comparison, and the few that cost more.
+/// How often most kinds must be met in a whole comparison, and the few that are made by hand alone.
 const LEAST: usize = 10;
 const SELDOM: usize = 1;
 /// How often a day must be recorded and replayed.
@@ -13,18 +14,40 @@ const OFTEN: usize = 100;
 
 pub const RECORDED: &str = "record: recorded";
 pub const REPLAYED: &str = "replay of a recorded day";
-pub const NOT_MADE: &str = "record: file that cannot be made";
+/// For a user who may write everywhere no folder is closed.
+pub const CLOSED_LEFT_OUT: &str = "left out: targets in a closed folder";
 
 pub fn script_name(kind: &str) -> String {
     format!("script: {kind}")
 }
 
-pub fn target_name(target: Target) -> String {
-    format!("target of a good script: {target:?}")
+pub fn limit_name(kind: &str) -> String {
+    format!("script at a limit: {kind}")
+}
+
+pub fn long_name(kind: &str) -> String {
+    format!("long: {kind}")
+}
+
+pub fn length_name(kind: &str) -> String {
+    format!("files of limited length: {kind}")
+}
+
+pub fn target_name(kind: &str) -> String {
+    format!("target of a good script: {kind}")
 }
 
 pub fn record_name(first: &str) -> String {
     format!("record: {first}")
+}
+
+/// Which of the two cannot be made, and whether a trace was there that could have been lost.
+pub fn not_made_name(second: bool, there: bool) -> &'static str {
+    match (second, there) {
+        (false, _) => "record: trace not made",
+        (true, false) => "record: memory not made, no trace before",
+        (true, true) => "record: memory not made, a trace before",
+    }
 }
 
 pub fn replay_name(first: &str) -> String {
@@ -35,19 +58,33 @@ pub fn memory_name(kind: &str) -> String {
     format!("memory: {kind}")
 }
 
-/// Counts what a replay writes: its refusal, or each answer to an event.
+pub fn feature_name(feature: &str) -> String {
+    format!("trace: {feature}")
+}
+
+/// Counts what a replay writes: what became of it, and each answer to an event.
 pub fn count(tally: &mut Tally, output: &str) {
     for line in output.lines() {
-        let words: Vec<&str> = line.split(' ').take(2).collect();
+        let words: Vec<&str> = line.split(' ').collect();
         match words[..] {
             ["refused", number] => tally.met(replay_name(&format!("refused {number}"))),
-            ["window", _] => tally.met(replay_name("played")),
-            ["write" | "grant" | "frame" | "send", number] => {
-                tally.met(format!("replay answer: {} {number}", words[0]));
+            ["refused", number, block] => {
+                tally.met(replay_name(&format!("refused {number}")));
+                tally.met(digits_name(block.len()));
+            }
+            ["window", ..] => tally.met(replay_name("played")),
+            ["usage:", ..] => tally.met(replay_name("usage")),
+            ["error", ..] => tally.met(replay_name("error")),
+            [event @ ("write" | "grant" | "frame" | "send"), number, ..] => {
+                tally.met(format!("replay answer: {event} {number}"));
             }
             _ => {}
         }
     }
+}
+
+fn digits_name(digits: usize) -> String {
+    replay_name(&format!("bad block with a number of {digits} digits"))
 }
 
 /// What the events of a replay can answer: the output of a program is never too short.
@@ -59,8 +96,11 @@ const ANSWERS: [(&str, &[u32]); 4] = [
 ];
 
 pub fn expect(tally: &mut Tally) {
-    for kind in [RECORDED, REPLAYED, NOT_MADE] {
+    for kind in [RECORDED, REPLAYED] {
         tally.expect(kind);
+    }
+    for (second, there) in [(false, false), (true, false), (true, true)] {
+        tally.expect(not_made_name(second, there));
     }
     for first in ["usage", "error", "refused"] {
         tally.expect(record_name(first));
@@ -71,6 +111,9 @@ pub fn expect(tally: &mut Tally) {
     for number in 17..=23 {
         tally.expect(replay_name(&format!("refused {number}")));
     }
+    for digits in [1, 2, 4] {
+        tally.expect(digits_name(digits));
+    }
     for (event, numbers) in ANSWERS {
         for number in numbers {
             tally.expect(format!("replay answer: {event} {number}"));
@@ -79,29 +122,47 @@ pub fn expect(tally: &mut Tally) {
     for kind in KINDS {
         tally.expect(script_name(kind));
     }
-    for target in TARGETS {
-        tally.expect(target_name(target));
+    for kind in limits::kinds() {
+        tally.expect(limit_name(&kind));
+    }
+    for kind in large::kinds() {
+        tally.expect(long_name(kind));
+    }
+    for kind in lengths::kinds() {
+        tally.expect(length_name(kind));
+    }
+    for target in targets::all() {
+        tally.expect(target_name(target.kind));
     }
     for kind in MEMORIES {
         tally.expect(memory_name(kind));
     }
+    for feature in FEATURES {
+        tally.expect(feature_name(feature));
+    }
 }
+
+/// What is made by hand alone, by the front of its name.
+const BY_HAND: [&str; 11] = [
+    "record: usage",
+    "record: refused",
+    "replay: usage",
+    "replay: refused 23",
+    "replay: bad block with a number of 4 digits",
+    "target",
+    "script at a limit",
+    "files of limited length",
+    "long",
+    "trace",
+    "left out",
+];
 
 /// How often a kind must be met in a whole comparison.
 pub fn least(kind: &str) -> usize {
-    let seldom = [
-        record_name("usage"),
-        record_name("refused"),
-        replay_name("usage"),
-        replay_name("refused 23"),
-    ];
-    if seldom.iter().any(|name| name == kind) {
-        SELDOM
-    } else if kind.starts_with("target") {
-        // Each is tried with a script by hand.
-        4
-    } else if [RECORDED, REPLAYED].contains(&kind) || kind == replay_name("played") {
+    if [RECORDED, REPLAYED, "replay: played"].contains(&kind) {
         OFTEN
+    } else if BY_HAND.iter().any(|front| kind.starts_with(front)) {
+        SELDOM
     } else {
         LEAST
     }

@@ -5,6 +5,9 @@ mod compare;
 mod expected;
 mod folder;
 mod large;
+mod lengths;
+mod limits;
+mod names;
 mod records;
 mod replays;
 mod scripts;
@@ -60,7 +63,10 @@ impl runs::Comparison for Comparison {
 
     fn made_by_hand(&mut self) -> Result<(), String> {
         records::made_by_hand(self)?;
-        replays::made_by_hand(self)?;
+        limits::compare(self)?;
+        lengths::compare(self)?;
+        names::compare(self)?;
+        replays::windows(self)?;
         large::compare(self)
     }
 

@@ -2,63 +2,73 @@
 
 use crate::compare::{Comparison, Start};
 use crate::expected;
-use crate::folder::{Contents, Entry};
 use crate::scripts::{self, Made};
-use crate::targets::{plain, Target, TARGETS};
+use crate::targets::{self, Place, Target, OLD};
 use oracle::console;
-use oracle::programs::record::{record, Files, USAGE};
+use oracle::files::{Contents, Entry};
 use oracle::random::Random;
 
 /// The script of a seed into a target of its own; a day that is recorded is also replayed.
 pub fn random(comparison: &mut Comparison, seed: u64) -> Result<(), String> {
     let random = &mut Random::new(!seed);
-    let target = match random.below(2) {
-        0 => random.pick(&TARGETS[..6]),
-        _ => random.pick(&TARGETS),
+    let targets = match random.below(2) {
+        0 => targets::made(),
+        _ => targets::all(),
     };
     let script = scripts::random(seed);
     comparison.tally.met(expected::script_name(script.kind));
-    one(comparison, target, &script, random)
-        .map_err(|difference| format!("{difference}\n{target:?}, {}", shown(&script)))
+    let empty = comparison.folder.empty();
+    let target = random.pick(&targets);
+    let old = random.pick(&OLD);
+    into(comparison, target, empty, old, &script, random)
 }
 
-/// Records one script into a target.
-pub fn one(
+/// Records one script into a target, where it can be had with these files there before.
+pub fn into(
     comparison: &mut Comparison,
     target: Target,
+    empty: Contents,
+    old: [bool; 2],
     script: &Made,
     random: &mut Random,
 ) -> Result<(), String> {
-    let place = target.place(random);
-    let recorded = record(&script.text);
+    match target.place(empty, old, random) {
+        Some(place) => one(comparison, target.kind, place, script)
+            .map_err(|difference| format!("{difference}\n{}, {}", target.kind, shown(script))),
+        None => Ok(()),
+    }
+}
+
+/// Records one script over two files that were there.
+pub fn over_old(comparison: &mut Comparison, script: &Made) -> Result<(), String> {
+    let random = &mut Random::new(script.text.len() as u64);
+    let empty = comparison.folder.empty();
+    let plain = targets::made()[0];
+    into(comparison, plain, empty, [true, true], script, random)
+}
+
+fn one(comparison: &mut Comparison, kind: &str, place: Place, script: &Made) -> Result<(), String> {
     let start = Start {
-        arguments: place.names.map(String::from).to_vec(),
+        arguments: place.names.to_vec(),
         input: &script.text,
         before: place.before,
     };
-    let before = &start.before;
-    // What is in the script comes first, then whether the files can be made.
-    let Some(files) = recorded.files else {
-        let first = recorded.line.split(' ').next().unwrap_or_default();
+    let ended = comparison.record(&start)?;
+    let first = ended.output.split(' ').next().unwrap_or_default();
+    let named = |name: &String| ended.output == format!("error {name}\n");
+    if first == "recorded" {
+        comparison.tally.met(expected::RECORDED);
+        comparison.tally.met(expected::target_name(kind));
+        again(comparison, &start, script, ended.after)
+    } else if place.names.iter().any(named) {
+        comparison.tally.met(expected::target_name(kind));
+        let there = start.before.read(&place.names[0]).is_some();
+        let second = named(&place.names[1]);
+        comparison.tally.met(expected::not_made_name(second, there));
+        Ok(())
+    } else {
         comparison.tally.met(expected::record_name(first));
-        return comparison.run(&comparison.record, &start, &recorded.line, before);
-    };
-    comparison.tally.met(expected::target_name(target));
-    if let Some(wrong) = place.wrong {
-        comparison.tally.met(expected::NOT_MADE);
-        let output = format!("error {}\n", place.names[wrong]);
-        return comparison.run(&comparison.record, &start, &output, before);
-    }
-    comparison.tally.met(expected::RECORDED);
-    let mut after = before.clone();
-    put(&mut after, place.names, &files);
-    comparison.run(&comparison.record, &start, &recorded.line, &after)?;
-    again(comparison, &start, script, after)
-}
-
-fn put(after: &mut Contents, names: [&str; 2], files: &Files) {
-    for (name, bytes) in names.iter().zip([&files.trace, &files.memory]) {
-        after.insert(plain(name), Entry::File(bytes.clone()));
+        Ok(())
     }
 }
 
@@ -93,42 +103,37 @@ fn again(
     comparison.run(&comparison.replay, &again, &output, &made)
 }
 
-/// Every target with one good day, every number of arguments, and scripts at their limits.
+/// Every target with a good day, with every old file; every number of arguments.
 pub fn made_by_hand(comparison: &mut Comparison) -> Result<(), String> {
     let random = &mut Random::new(0x4EC0);
     let script = Made {
         kind: "by hand",
         text: b"new 0 64\npoke 0 0102\nsend 1518\n".to_vec(),
     };
-    for target in TARGETS {
-        for _ in 0..4 {
-            one(comparison, target, &script, random)
-                .map_err(|difference| format!("{difference}\n{target:?}, {}", shown(&script)))?;
+    let mut targets = targets::all();
+    match comparison.folder.can_be_closed() {
+        true => targets.extend(targets::closed()),
+        false => comparison.tally.met(expected::CLOSED_LEFT_OUT),
+    }
+    for target in targets {
+        for old in OLD {
+            let empty = comparison.folder.empty();
+            into(comparison, target, empty, old, &script, random)?;
         }
     }
-    for text in [
-        "",
-        "\n",
-        "#",
-        "\n\n# nothing",
-        "new 0 64",
-        "new 0 64\n#\n\n",
-    ] {
-        let script = Made {
-            kind: "by hand",
-            text: text.into(),
-        };
-        one(comparison, Target::Old, &script, random)
-            .map_err(|difference| format!("{difference}\n{}", shown(&script)))?;
-    }
+    // Whatever the script is and whether there are such files.
     for words in [&[][..], &["a"], &["a", "b", "c"], &["a", "b", "c", "d"]] {
-        let start = Start {
-            arguments: words.iter().map(|word| word.to_string()).collect(),
-            input: &script.text,
-            before: Contents::new(),
-        };
-        comparison.tally.met(expected::record_name("usage"));
-        comparison.run(&comparison.record, &start, USAGE, &Contents::new())?;
+        for input in [&script.text[..], b"wrong", b""] {
+            let mut before = comparison.folder.empty();
+            before.put("a", Entry::File(vec![1]));
+            let start = Start {
+                arguments: words.iter().map(|word| word.to_string()).collect(),
+                input,
+                before,
+            };
+            comparison.tally.met(expected::record_name("usage"));
+            comparison.record(&start)?;
+        }
     }
     Ok(())
 }

@@ -1,12 +1,13 @@
-//! `replay`: traces of every kind with memories of every length, and files that cannot be read.
+//! `replay`: traces of every kind with memories of every length.
 
 use crate::compare::{Comparison, Start};
 use crate::expected;
-use crate::folder::{Contents, Entry};
+use oracle::files::{Contents, Entry};
 use oracle::hex;
-use oracle::programs::replay::{output, MEMORY_MOST, USAGE};
+use oracle::programs::replay::MEMORY_MOST;
 use oracle::random::Random;
-use oracle::tapes;
+use oracle::tapes::{self, Tape};
+use oracle::trace::{Event, Header};
 
 const TRACE: &str = "day.trace";
 const MEMORY: &str = "day.memory";
@@ -39,7 +40,7 @@ pub fn random(comparison: &mut Comparison, seed: u64) -> Result<(), String> {
         "longer" => window + random.between(2, 5_000),
         "empty" => 0,
         "as much as is taken" => MEMORY_MOST,
-        "more than is taken" => MEMORY_MOST + random.pick(&[1, 4, 100_000]),
+        "more than is taken" => MEMORY_MOST + random.pick(&[1, 4, 1_000_000]),
         _ => window,
     };
     let mut memory = tape.image.clone();
@@ -61,97 +62,68 @@ pub fn random(comparison: &mut Comparison, seed: u64) -> Result<(), String> {
 
 /// Replays one trace with one memory.
 pub fn one(comparison: &mut Comparison, trace: &[u8], memory: &[u8]) -> Result<(), String> {
-    let wanted = output(trace, memory);
-    expected::count(&mut comparison.tally, &wanted);
-    let files = [(TRACE, trace), (MEMORY, memory)];
-    let start = Start {
-        arguments: vec![TRACE.to_string(), MEMORY.to_string()],
-        input: b"",
-        before: contents(&files),
-    };
-    comparison.run(&comparison.replay, &start, &wanted, &start.before)
+    for feature in tapes::features(trace) {
+        comparison.tally.met(expected::feature_name(feature));
+    }
+    let before = contents(comparison, &[(TRACE, trace), (MEMORY, memory)]);
+    given(comparison, &[TRACE, MEMORY], &before)
 }
 
 /// Replays a trace with a memory that is not there: that is told, whatever the trace is.
 pub fn without_memory(comparison: &mut Comparison, trace: &[u8]) -> Result<(), String> {
-    comparison.tally.met(expected::replay_name("error"));
-    let output = format!("error {MEMORY}\n");
-    given(
-        comparison,
-        &[TRACE, MEMORY],
-        &contents(&[(TRACE, trace)]),
-        &output,
-    )
+    let before = contents(comparison, &[(TRACE, trace)]);
+    given(comparison, &[TRACE, MEMORY], &before)
 }
 
-fn contents(files: &[(&str, &[u8])]) -> Contents {
-    files
-        .iter()
-        .map(|(name, bytes)| (name.to_string(), Entry::File(bytes.to_vec())))
-        .collect()
+pub fn contents(comparison: &Comparison, files: &[(&str, &[u8])]) -> Contents {
+    let mut contents = comparison.folder.empty();
+    for (name, bytes) in files {
+        contents.put(*name, Entry::File(bytes.to_vec()));
+    }
+    contents
 }
 
-/// Files that are missing or folders, each with the other one right or not; every number of
-/// arguments; one file for both.
-pub fn made_by_hand(comparison: &mut Comparison) -> Result<(), String> {
-    let tape = tapes::random(0);
-    let bad = [0; 100];
-    let mut before = contents(&[
-        ("good", &tape.bytes),
-        ("bad", &bad),
-        ("memory", &tape.image),
-        ("empty", &[]),
-    ]);
-    before.insert("folder".to_string(), Entry::Folder);
-    let long = "a".repeat(300);
-    let missing = [
-        "none",
-        "none/good",
-        "folder",
-        "good/inside",
-        "",
-        "no such",
-        &long,
-    ];
-    for wrong in missing {
-        for (names, told) in [
-            // The first that cannot be read is told, before anything that is in them.
-            ([wrong, "memory"], wrong),
-            (["good", wrong], wrong),
-            (["bad", wrong], wrong),
-            (["empty", wrong], wrong),
-            ([wrong, "none too"], wrong),
-            (["none too", wrong], "none too"),
-        ] {
-            comparison.tally.met(expected::replay_name("error"));
-            let output = format!("error {told}\n");
-            given(comparison, &names, &before, &output)?;
-        }
-    }
-    for words in [&[][..], &["good"], &["good", "memory", "memory"]] {
-        comparison.tally.met(expected::replay_name("usage"));
-        given(comparison, words, &before, USAGE)?;
-    }
-    for (names, memory) in [
-        (["good", "good"], &tape.bytes),
-        (["./good", "folder/../memory"], &tape.image),
-    ] {
-        let wanted = output(&tape.bytes, memory);
-        given(comparison, &names, &before, &wanted)?;
-    }
-    given(comparison, &["empty", "empty"], &before, "refused 17 0\n")
-}
-
-fn given(
-    comparison: &Comparison,
-    words: &[&str],
-    before: &Contents,
-    output: &str,
-) -> Result<(), String> {
+/// Runs `replay` with these words and files.
+pub fn given(comparison: &mut Comparison, words: &[&str], before: &Contents) -> Result<(), String> {
     let start = Start {
         arguments: words.iter().map(|word| word.to_string()).collect(),
         input: b"",
         before: before.clone(),
     };
-    comparison.run(&comparison.replay, &start, output, before)
+    let output = comparison.replay(&start)?;
+    expected::count(&mut comparison.tally, &output);
+    Ok(())
+}
+
+/// The smallest and the largest windows, at both ends of the addresses, with memories of every
+/// length that matters.
+pub fn windows(comparison: &mut Comparison) -> Result<(), String> {
+    let events = [
+        Event::Write {
+            offset: 0x30,
+            value: 5,
+        },
+        Event::Send,
+        Event::Grant { address: 0 },
+        Event::Frame { bytes: vec![] },
+    ];
+    for length in [64, 65_536] {
+        for base in [0, 0_u32.wrapping_sub(length)] {
+            let window = length as usize;
+            let tape = Tape::new("by hand", Header { base, length }, vec![], &events);
+            for memory in [
+                0,
+                1,
+                window - 1,
+                window,
+                window + 1,
+                MEMORY_MOST,
+                MEMORY_MOST + 1,
+            ] {
+                one(comparison, &tape.bytes, &vec![0x5A; memory])
+                    .map_err(|text| format!("{base:x} {length}, memory of {memory}\n{text}"))?;
+            }
+        }
+    }
+    Ok(())
 }

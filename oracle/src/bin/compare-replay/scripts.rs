@@ -5,13 +5,17 @@ use oracle::random::Random;
 use oracle::scripts::{days, malformed_line, random_script};
 
 /// What is done to a day.
-pub const KINDS: [&str; 17] = [
+pub const KINDS: [&str; 21] = [
     "as it is",
     "comments and empty lines",
     "no last line feed",
     "other forms of the same words",
     "long comment",
+    "carriage returns in comments",
+    "carriage returns",
     "line put in",
+    "lines put in",
+    "line put in among comments",
     "other command put in",
     "line too long",
     "poke outside",
@@ -25,6 +29,9 @@ pub const KINDS: [&str; 17] = [
     "script of the console",
 ];
 
+/// So many of these leave a day that can be recorded.
+const RECORDED: usize = 6;
+
 pub struct Made {
     pub kind: &'static str,
     pub text: Vec<u8>,
@@ -35,17 +42,38 @@ pub fn random(seed: u64) -> Made {
     let random = &mut Random::new(seed);
     let kind = match random.below(3) {
         // So that enough are recorded.
-        0 => KINDS[random.below(5)],
+        0 => KINDS[random.below(RECORDED)],
         _ => random.pick(&KINDS),
     };
     let mut lines = days::random_day(random);
+    let count = lines.len();
     let mut last_line_feed = !random.once_in(4);
     match kind {
         "comments and empty lines" => decorate(&mut lines, random),
         "no last line feed" => last_line_feed = false,
         "other forms of the same words" => rewrite(&mut lines, random),
         "long comment" => put(&mut lines, long(b"#", random), random),
+        "carriage returns in comments" => {
+            decorate(&mut lines, random);
+            lines
+                .iter_mut()
+                .filter(|line| line.starts_with(b"#"))
+                .for_each(end_by_return);
+        }
+        "carriage returns" => match random.below(2) {
+            0 => lines.iter_mut().for_each(end_by_return),
+            _ => end_by_return(&mut lines[random.below(count)]),
+        },
         "line put in" => put(&mut lines, malformed_line(random), random),
+        "lines put in" => {
+            for _ in 0..random.between(2, 4) {
+                put(&mut lines, malformed_line(random), random);
+            }
+        }
+        "line put in among comments" => {
+            put(&mut lines, other_command(random), random);
+            decorate(&mut lines, random);
+        }
         "other command put in" => put(&mut lines, other_command(random), random),
         "line too long" => {
             let command = random.pick(&[&b"frame "[..], b"poke 0 ", b"write 0 "]);
@@ -99,6 +127,10 @@ fn decorate(lines: &mut Script, random: &mut Random) {
         let line = random.pick(&[&b""[..], b"", b"#", b"# send 1", b"#new", b"#\t\xFF\0"]);
         put(lines, line.to_vec(), random);
     }
+}
+
+fn end_by_return(line: &mut Vec<u8>) {
+    line.push(b'\r');
 }
 
 /// Numbers with zeros in front, digits in the other case.
@@ -216,8 +248,10 @@ mod tests {
 
     #[test]
     fn what_must_be_recorded_and_what_must_not() {
-        let good = &KINDS[..5];
+        let good = &KINDS[..RECORDED];
         let wrong = [
+            "carriage returns",
+            "line put in among comments",
             "poke behind an event",
             "send with too little room",
             "no new",

@@ -1,106 +1,237 @@
-//! Targets for `record`: names that can be made into files, and names that cannot.
+//! Targets for `record`: two names, and what is in the folder before.
 
-use crate::folder::{Contents, Entry};
+use oracle::files::{Contents, Entry};
 use oracle::random::Random;
 
-/// Where the two files are to be made.
-#[derive(Clone, Copy, Debug, PartialEq, Eq)]
-pub enum Target {
-    New,
-    Old,
-    OneOld,
-    InAFolder,
-    OddNames,
-    Neighbours,
-    TraceInNoFolder,
-    MemoryInNoFolder,
-    BothInNoFolder,
-    TraceIsAFolder,
-    MemoryIsAFolder,
-    TraceInAFile,
-    MemoryInAFile,
-    NoName,
+/// Names that can be made into two files.
+const MADE: &str = "
+    plain                               | day.trace     | day.memory      |
+    in a folder                         | folder/a      | ./folder/b      |
+    through a folder                    | folder/../a   | folder//..//b   |
+    whole paths                         | {home}/a      | {home}/folder/b |
+    odd names                           | a day's trace | m\u{e9}moire.#1 |
+    names like options                  | -             | --help          |
+    names of dots                       | ...           | .hidden         |
+    one name in two folders             | a             | folder/a        |
+    trace in a linked folder            | way/a         | b               | way -> folder
+    memory above a linked folder        | a             | way/../b        | way -> folder/below
+    beside files of other ends          | day.trace     | day.memory      | *.tmp, *.new, *.new00, *~, *.bak
+    beside a file .new00                | day.trace     | day.memory      | .new00
+    beside files .new00 to .new03       | day.trace     | day.memory      | .new00, .new01, .new02, .new03
+    beside files .new01 and .new03      | day.trace     | day.memory      | .new01, .new03
+    beside an empty folder .new00       | day.trace     | day.memory      | .new00/
+    beside a folder .new00              | day.trace     | day.memory      | .new00/, .new00/inside
+    beside a link .new00 to a file      | day.trace     | day.memory      | .new00 -> other
+    beside a link .new00 to a folder    | day.trace     | day.memory      | .new00 -> folder
+    beside a link .new00 to nothing     | day.trace     | day.memory      | .new00 -> none
+    beside a link .new00 to itself      | day.trace     | day.memory      | .new00 -> .new00
+    beside a link .new00 to the trace   | day.trace     | day.memory      | .new00 -> day.trace
+    beside a link .new00 to the memory  | day.trace     | day.memory      | .new00 -> day.memory
+    in a folder, beside files .new00    | folder/a      | b               | .new00, folder/.new00
+    trace named .new00                  | .new00        | b               |
+    memory named .new00                 | a             | .new00          |
+    named .new00 and .new01             | .new00        | .new01          |
+    named .new01 and .new00             | .new01        | .new00          |
+    named .new02 and .new00             | .new02        | .new00          |
+    named .new00, in two folders        | .new00        | folder/.new00   |
+    trace in a folder .new00            | .new00/a      | b               | .new00/
+    memory in a folder .new00           | a             | .new00/.new00   | .new00/
+    memory named as the trace's .new00  | day           | day.new00       |
+    trace named as the memory's .new00  | day.new00     | day             |
+    trace a link to a file              | day.trace     | day.memory      | day.trace -> other
+    memory a link to a file             | day.trace     | day.memory      | day.memory -> folder/inside
+    trace a link to a folder            | day.trace     | day.memory      | day.trace -> folder
+    memory a link to a folder           | day.trace     | day.memory      | day.memory -> folder
+    both links to nothing               | day.trace     | day.memory      | * -> none
+    both links to one file              | day.trace     | day.memory      | * -> other
+    both links to themselves            | day.trace     | day.memory      | * -> *
+    trace a link to the memory          | day.trace     | day.memory      | day.trace -> day.memory
+    memory a link to the trace          | day.trace     | day.memory      | day.memory -> day.trace
+    links to each other                 | a             | b               | a -> b, b -> a
+    trace of 255 characters             | {255}         | b               |
+    memory of 255 characters            | a             | folder/{255}    |
+";
+
+/// Names of which one cannot be made, or not beside the other.
+const NOT_MADE: &str = "
+    trace in no folder                  | none/a        | b               |
+    memory in no folder                 | a             | none/b          |
+    both in no folder                   | none/a        | none/b          |
+    trace through no folder             | none/../a     | b               |
+    memory through no folder            | a             | none/../b       |
+    trace a folder                      | folder        | b               |
+    memory a folder                     | a             | folder          |
+    memory an empty folder              | a             | folder/below    |
+    memory a folder, trace a link       | a             | folder          | a -> other
+    memory in no folder, trace a link   | a             | none/b          | a -> none
+    both folders                        | folder        | folder/below    |
+    trace a folder by a slash           | folder/       | b               |
+    memory a folder by a slash          | a             | folder/below/   |
+    trace a linked folder by a slash    | way/          | b               | way -> folder
+    memory a linked folder by a slash   | a             | way/            | way -> folder
+    trace with a slash                  | a/            | b               |
+    memory with a slash                 | a             | b/              |
+    trace a file with a slash           | other/        | b               |
+    trace the folder itself             | .             | b               |
+    memory the folder above             | a             | folder/..       |
+    trace in a file                     | other/a       | b               |
+    memory in a file                    | a             | other/b         |
+    memory through a file               | a             | other/../b      |
+    trace behind a link to nothing      | way/a         | b               | way -> none
+    memory behind a link to itself      | a             | way/b           | way -> way
+    trace without a name                |               | b               |
+    memory without a name               | a             |                 |
+    trace of 256 characters             | {256}         | b               |
+    memory of 256 characters            | a             | {256}           |
+    one file by one name                | a             | a               |
+    one file with a dot                 | a             | ./a             |
+    one file with a dot first           | ./a           | a               |
+    one file through a folder           | a             | folder/../a     |
+    one file through a folder first     | folder/../a   | a               |
+    one file with two slashes           | folder/a      | folder//a       |
+    one file by its whole path          | a             | {home}/a        |
+    one file by its whole path first    | {home}/a      | a               |
+    one file by a linked folder         | folder/a      | way/a           | way -> folder
+    one file by a linked folder first   | way/a         | folder/a        | way -> folder
+    memory behind the trace             | a             | a/b             |
+    trace behind the memory             | a/b           | a               |
+";
+
+/// The same where a folder without the right to write refuses a user.
+const CLOSED: &str = "
+    trace in a closed folder            | closed/a      | b               | closed!
+    memory in a closed folder           | a             | closed/b        | closed!
+    both in a closed folder             | closed/a      | closed/b        | closed!
+";
+
+/// A row of these tables.
+#[derive(Clone, Copy)]
+pub struct Target {
+    pub kind: &'static str,
+    /// With `{home}` for the folder's own name, and for letters their number in braces.
+    names: [&'static str; 2],
+    /// What else is there: files, folders with a slash, links with an arrow, closed folders with an
+    /// exclamation mark; `*` is either name.
+    there: &'static str,
 }
 
-pub const TARGETS: [Target; 14] = [
-    Target::New,
-    Target::Old,
-    Target::OneOld,
-    Target::InAFolder,
-    Target::OddNames,
-    Target::Neighbours,
-    Target::TraceInNoFolder,
-    Target::MemoryInNoFolder,
-    Target::BothInNoFolder,
-    Target::TraceIsAFolder,
-    Target::MemoryIsAFolder,
-    Target::TraceInAFile,
-    Target::MemoryInAFile,
-    Target::NoName,
-];
+pub fn made() -> Vec<Target> {
+    rows(MADE)
+}
 
-/// What files beside the two end with.
-const ENDS: [&str; 6] = [".tmp", ".temp", ".new", ".part", "~", ".bak"];
+pub fn all() -> Vec<Target> {
+    [rows(MADE), rows(NOT_MADE)].concat()
+}
 
-/// The names given, what is in the folder before, and the name that cannot be made, if one cannot.
+pub fn closed() -> Vec<Target> {
+    rows(CLOSED)
+}
+
+fn rows(table: &'static str) -> Vec<Target> {
+    let row = |line: &'static str| {
+        let cells: Vec<&str> = line.split('|').map(str::trim).collect();
+        let [kind, trace, memory, there] = cells[..] else {
+            panic!("a row has four cells: {line}");
+        };
+        let names = [trace, memory];
+        Target { kind, names, there }
+    };
+    table.trim().lines().map(row).collect()
+}
+
+/// Which of the two are there before, as files.
+pub const OLD: [[bool; 2]; 4] = [[false, false], [true, false], [false, true], [true, true]];
+
+/// The names given, and what is in the folder before.
 pub struct Place {
-    pub names: [&'static str; 2],
+    pub names: [String; 2],
     pub before: Contents,
-    pub wrong: Option<usize>,
 }
 
 impl Target {
-    pub fn place(self, random: &mut Random) -> Place {
-        let (names, wrong) = match self {
-            Target::New | Target::Old | Target::OneOld | Target::Neighbours => {
-                (["day.trace", "day.memory"], None)
-            }
-            Target::InAFolder => (["folder/a", "./folder/b"], None),
-            Target::OddNames => (["a day's trace", "m\u{e9}moire.#1"], None),
-            Target::TraceInNoFolder => (["none/a", "b"], Some(0)),
-            Target::MemoryInNoFolder => (["a", "none/b"], Some(1)),
-            Target::BothInNoFolder => (["none/a", "none/b"], Some(0)),
-            Target::TraceIsAFolder => (["folder", "b"], Some(0)),
-            Target::MemoryIsAFolder => (["a", "folder"], Some(1)),
-            Target::TraceInAFile => (["other/a", "b"], Some(0)),
-            Target::MemoryInAFile => (["a", "other/b"], Some(1)),
-            Target::NoName => (["", "b"], Some(0)),
-        };
-        let mut before = Contents::new();
-        before.insert("folder".to_string(), Entry::Folder);
-        before.insert("folder/inside".to_string(), Entry::File(vec![1, 2, 3]));
-        before.insert("other".to_string(), Entry::File(vec![4, 5, 6]));
-        let old = match self {
-            Target::New => &[][..],
-            Target::OneOld => &names[1..],
-            Target::MemoryInNoFolder | Target::MemoryIsAFolder | Target::MemoryInAFile => {
-                // "The first is as it was": one that was there, or none.
-                &names[..random.below(2)]
-            }
-            Target::Old | Target::InAFolder | Target::OddNames => &names[..random.below(3)],
-            _ => &[],
-        };
-        for name in old {
-            let length = random.below(2_000);
-            let bytes = random.bytes(length);
-            before.insert(plain(name), Entry::File(bytes));
-        }
-        if self == Target::Neighbours {
-            // Names that a temporary file might have: they are someone else's.
-            for (name, end) in names.iter().flat_map(|name| ENDS.map(|end| (name, end))) {
-                let neighbour = Entry::File(random.bytes(9));
-                before.insert(format!("{name}{end}"), neighbour);
+    /// The target in an empty folder. Nothing if a file that should be there cannot be.
+    pub fn place(&self, empty: Contents, old: [bool; 2], random: &mut Random) -> Option<Place> {
+        let mut before = empty;
+        let names = self.names.map(|name| spelled(name, &before.home));
+        before.put("folder", Entry::Folder);
+        before.put("folder/below", Entry::Folder);
+        before.put("folder/inside", Entry::File(vec![1, 2, 3]));
+        before.put("other", Entry::File(vec![4, 5, 6]));
+        for there in self.there.split(", ").filter(|there| !there.is_empty()) {
+            for name in &names {
+                put(&mut before, &there.replace('*', name), random);
             }
         }
-        Place {
-            names,
-            before,
-            wrong,
+        for (name, old) in names.iter().zip(old) {
+            if old {
+                let place = before.room_for(name)?;
+                if before.entries.contains_key(&place) {
+                    return None;
+                }
+                before.put(place, file(random));
+            }
         }
+        Some(Place { names, before })
     }
 }
 
-/// A name as the folder lists it.
-pub fn plain(name: &str) -> String {
-    name.trim_start_matches("./").to_string()
+fn put(before: &mut Contents, there: &str, random: &mut Random) {
+    if let Some((name, to)) = there.split_once(" -> ") {
+        before.put(name, Entry::Link(to.to_string()));
+    } else if let Some(name) = there.strip_suffix('/') {
+        before.put(name, Entry::Folder);
+    } else if let Some(name) = there.strip_suffix('!') {
+        before.put(name, Entry::Closed);
+    } else {
+        before.put(there, file(random));
+    }
+}
+
+fn file(random: &mut Random) -> Entry {
+    let length = random.below(2_000);
+    Entry::File(random.bytes(length))
+}
+
+/// A name with what no table can hold.
+fn spelled(name: &str, home: &str) -> String {
+    let mut name = name.replace("{home}", home);
+    for length in [255, 256] {
+        name = name.replace(&format!("{{{length}}}"), &"n".repeat(length));
+    }
+    name
+}
+
+#[cfg(test)]
+mod tests {
+    use super::*;
+    use oracle::programs::record::{make, Files};
+
+    #[test]
+    fn what_can_be_made_and_what_cannot() {
+        let files = Files {
+            trace: vec![1; 2_000],
+            memory: vec![2; 2_000],
+        };
+        let random = &mut Random::new(16);
+        for (table, can) in [(MADE, true), (NOT_MADE, false), (CLOSED, false)] {
+            for target in rows(table) {
+                for old in OLD {
+                    let Some(place) = target.place(Contents::new("/home"), old, random) else {
+                        assert_ne!(old, OLD[0], "{}", target.kind);
+                        continue;
+                    };
+                    let names = [&place.names[0][..], &place.names[1]];
+                    let made = make(&place.before, names, &files);
+                    assert_eq!(made.is_ok(), can, "{} {old:?}", target.kind);
+                    // The kind says which one is wrong.
+                    if let Err(wrong) = made {
+                        let first = ["trace", "both"]
+                            .iter()
+                            .any(|word| target.kind.starts_with(word));
+                        assert_eq!(wrong == 0, first, "{} {old:?}", target.kind);
+                    }
+                }
+            }
+        }
+    }
 }
