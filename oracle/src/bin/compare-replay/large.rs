@@ -22,19 +22,23 @@ pub fn compare(comparison: &mut Comparison) -> Result<(), String> {
 
 /// Long scripts: how many bytes of events they have, their end, and where they go. Before a refusal
 /// comes a wrong line, and behind it a file that cannot be made.
-const SCRIPTS: [(&str, usize, &str, &str); 7] = [
+const SCRIPTS: [(&str, usize, &str, &str); 11] = [
     ("as long as there is room for", MOST, "", "plain"),
+    ("a frame up to the end", MOST - 7, "frame 0011\n", "plain"),
+    (
+        "a frame over the end",
+        MOST - 6,
+        "frame 0011\nsend 1518\n",
+        "plain",
+    ),
     ("longer by a send", MOST + 1, "", "plain"),
     ("far longer", 3 * MOST, "", "plain"),
-    ("longer, a wrong line", MOST + 1, "state\n", "plain"),
-    ("far longer, a wrong line", 3 * MOST, "state", "plain"),
+    ("longer, comments", MOST + 1, "#\n\n#", "plain"),
+    ("longer, a wrong line", MOST + 1, "#\nstate\n", "plain"),
+    ("longer, a poke", MOST + 1, "poke 0 00\n", "plain"),
+    ("longer, a second new", MOST + 1, "new 0 64", "plain"),
     ("longer, no folder", MOST + 1, "", NO_FOLDER),
-    (
-        "longer, a wrong line, no folder",
-        MOST + 1,
-        "#\n\nend",
-        NO_FOLDER,
-    ),
+    ("longer, wrong, no folder", MOST + 1, "end", NO_FOLDER),
 ];
 const NO_FOLDER: &str = "trace in no folder";
 
