@@ -73,12 +73,13 @@ fn made(name: &[u8], path: &[u8], other: &[u8]) -> i32 {
     os::create(name)
 }
 
-// Whether a file may take the place of what has this name. A device, a pipe or a terminal stays: it does not go to a place
-// that it is sent to, as a file does. What cannot be opened, as where there is nothing, is left to the rename.
+// Whether a file may take the place of what has this name. A folder stays, also where a link leads to it: a file in the link's
+// place would cut off what is behind it. A device, a pipe or a terminal stays: it does not go to a place that it is sent to, as a
+// file does. What else cannot be opened, as where there is nothing, is left to the rename.
 fn is_replaceable(path: &[u8]) -> bool {
     let fd = os::open_update(path);
     if fd < 0 {
-        return true;
+        return os::errno() != libc::EISDIR;
     }
     let place = libc::lseek(fd, 1, libc::SEEK_SET);
     libc::close(fd);
