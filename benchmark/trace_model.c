@@ -32,6 +32,7 @@ enum answer {
 #define USED 2
 #define FIRST 4
 #define CHECK 508
+#define QUARTER 127
 
 static uint32_t load_half(const uint8_t *at)
 {
@@ -67,13 +68,21 @@ static bool window_allowed(uint32_t base, uint32_t window)
            (uint64_t)base + window <= UINT64_C(0x100000000);
 }
 
-/* Each byte times its position plus one, summed. */
-static uint32_t weigh(uint32_t position, const uint8_t *bytes, size_t length)
+/* Each byte times its position plus one, summed over the bytes before the check: in
+ * quarters, one product for four bytes, as the proved code has it. */
+static uint32_t weigh(const uint8_t *block)
 {
     uint32_t sum = 0;
+    uint8_t weight = 0;
 
-    for (size_t i = 0; i < length; i++)
-        sum += bytes[i] * (position + (uint32_t)i + 1);
+    for (size_t i = 0; i < QUARTER; i++) {
+        uint16_t second = block[i + QUARTER], third = block[i + 2 * QUARTER];
+        uint16_t last = block[i + 3 * QUARTER];
+        uint16_t all = (uint16_t)(block[i] + second + third + last);
+        uint16_t over = (uint16_t)(second + third + third + last + last + last);
+        weight++;
+        sum += (uint32_t)all * weight + QUARTER * (uint32_t)over;
+    }
     return sum;
 }
 
@@ -119,7 +128,7 @@ static enum answer block_fault(const uint8_t *block, size_t length, size_t k, bo
         return BLOCK_LENGTH;
     if (load_half(block + NUMBER) != k)
         return BLOCK_NUMBER;
-    if (load(block + CHECK) != weigh(0, block, CHECK) % 65521)
+    if (load(block + CHECK) != weigh(block) % 65521)
         return BLOCK_CHECK;
     used = load_half(block + USED);
     if (used == 0 || used > DATA || (!last && used < DATA))
@@ -152,6 +161,8 @@ static uint8_t byte_at(const uint8_t *trace, size_t place)
 
 static uint32_t word_at(const uint8_t *trace, size_t place)
 {
+    if (place % DATA <= DATA - 4)
+        return load(trace + BLOCK * (place / DATA) + FIRST + place % DATA);
     return (uint32_t)byte_at(trace, place) | (uint32_t)byte_at(trace, place + 1) << 8 |
            (uint32_t)byte_at(trace, place + 2) << 16 | (uint32_t)byte_at(trace, place + 3) << 24;
 }
@@ -252,7 +263,7 @@ static void put_block(uint8_t *block, size_t k, const uint8_t *data, size_t used
     store_half(block + USED, (uint32_t)used);
     memcpy(block + FIRST, data, used);
     memset(block + FIRST + used, 0, DATA - used);
-    store(block + CHECK, (weigh(0, block, FIRST) + weigh(FIRST, data, used)) % 65521);
+    store(block + CHECK, weigh(block) % 65521);
 }
 
 static void put_blocks(uint32_t base, uint32_t window, const uint8_t *events, size_t length,
