@@ -60,16 +60,13 @@ impl Contents {
     }
 
     /// Where a file of this name can be made, new or in place of what is there: of a file, or of a
-    /// link, since a file that is renamed replaces the link itself. A folder stays.
+    /// link, since a file that is renamed replaces the link itself. A folder stays, and so does a
+    /// link that leads to one: it is a folder too.
     pub fn room_for(&self, name: &str) -> Option<String> {
         let place = self.place(name)?;
-        let folder = [Entry::Folder, Entry::Closed];
-        let taken = self
-            .entries
-            .get(&place)
-            .is_some_and(|entry| folder.contains(entry));
+        let folder = self.walk(&place).is_some();
         let closed = self.entries.get(parent(&place)) == Some(&Entry::Closed);
-        (!taken && !closed).then_some(place)
+        (!folder && !closed).then_some(place)
     }
 
     /// Where a file of this name stands or would stand; nothing if only a folder could.

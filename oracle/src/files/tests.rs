@@ -2,7 +2,7 @@
 
 use super::*;
 
-/// A file and a folder with one, links to both, to nothing and to itself.
+/// A file and a folder with one, links to both, to links, to nothing and to itself.
 fn contents() -> Contents {
     let mut contents = Contents::new("/home");
     for (name, entry) in [
@@ -16,6 +16,13 @@ fn contents() -> Contents {
         ("to-file", Entry::Link("file".to_string())),
         ("to-folder", Entry::Link("folder".to_string())),
         ("to-below", Entry::Link("./folder/below/".to_string())),
+        ("to-closed", Entry::Link("closed".to_string())),
+        ("to-here", Entry::Link(".".to_string())),
+        ("folder/to-above", Entry::Link("..".to_string())),
+        ("to-link-to-file", Entry::Link("to-file".to_string())),
+        ("to-link-to-folder", Entry::Link("to-folder".to_string())),
+        ("to-link-to-nothing", Entry::Link("to-nothing".to_string())),
+        ("through-a-file", Entry::Link("file/".to_string())),
         ("to-nothing", Entry::Link("nothing".to_string())),
         ("to-itself", Entry::Link("to-itself".to_string())),
     ] {
@@ -41,6 +48,9 @@ fn files_by_every_spelling() {
         ("to-folder/inside", 2),
         // What is above the folder that the link leads to.
         ("to-below/../inside", 2),
+        ("to-link-to-file", 1),
+        ("to-link-to-folder/inside", 2),
+        ("to-here/folder/to-above/file", 1),
     ] {
         assert_eq!(contents().read(name), Some(&[byte][..]), "{name}");
     }
@@ -66,6 +76,9 @@ fn names_that_lead_to_no_file() {
         "to-itself",
         "to-itself/file",
         "to-nothing/../file",
+        "to-link-to-folder",
+        "to-link-to-nothing",
+        "through-a-file",
     ] {
         assert_eq!(contents().read(name), None, "{name}");
     }
@@ -84,10 +97,13 @@ fn where_files_can_be_made() {
         ("file", "file"),
         // The link itself is replaced.
         ("to-file", "to-file"),
-        ("to-folder", "to-folder"),
         ("to-nothing", "to-nothing"),
         ("to-itself", "to-itself"),
+        ("to-link-to-file", "to-link-to-file"),
+        ("to-link-to-nothing", "to-link-to-nothing"),
+        ("through-a-file", "through-a-file"),
         ("folder/up", "folder/up"),
+        ("to-link-to-folder/up", "folder/up"),
     ] {
         assert_eq!(contents().room_for(name).as_deref(), Some(place), "{name}");
     }
@@ -107,7 +123,21 @@ fn where_files_can_be_made() {
         "closed/new",
         "closed/inside",
         "to-nothing/new",
+        "to-nothing/",
         "to-itself/new",
+        "to-file/",
+        // A link that leads to a folder is one.
+        "to-folder",
+        "to-folder/",
+        "./to-folder",
+        "/home/to-folder",
+        "to-below",
+        "to-closed",
+        "to-here",
+        "folder/to-above",
+        "to-folder/to-above",
+        "to-link-to-folder",
+        "to-link-to-folder/",
     ] {
         assert_eq!(contents().room_for(name), None, "{name}");
     }

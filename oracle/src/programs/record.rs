@@ -77,17 +77,21 @@ fn without_files(line: String) -> Recorded {
 /// The folder with both files made, or which of the names is the first that cannot be.
 pub fn make(before: &Contents, names: [&str; 2], files: &Files) -> Result<Contents, usize> {
     let bytes = [&files.trace[..], &files.memory];
+    let place = |number: usize| {
+        let fits = before
+            .longest
+            .is_none_or(|most| bytes[number].len() <= most);
+        let place = before.room_for(names[number]);
+        place.filter(|_| fits).ok_or(number)
+    };
+    let places = [place(0)?, place(1)?];
+    // "Two names of one file, however they are spelt, make no file."
+    if places[0] == places[1] {
+        return Err(1);
+    }
     let mut after = before.clone();
-    for (place, name) in names.iter().enumerate() {
-        let fits = before.longest.is_none_or(|most| bytes[place].len() <= most);
-        let room = before.room_for(name).filter(|_| fits).ok_or(place)?;
-        after.put(room, Entry::File(bytes[place].to_vec()));
+    for (place, bytes) in places.into_iter().zip(bytes) {
+        after.put(place, Entry::File(bytes.to_vec()));
     }
-    // "It makes both files": two names of one place are not two files, nor are a name and one
-    // behind it. Then the first can be made, and the second cannot be made beside it.
-    let made = |place: usize| after.read(names[place]) == Some(bytes[place]);
-    match made(0) && made(1) {
-        true => Ok(after),
-        false => Err(1),
-    }
+    Ok(after)
 }

@@ -68,13 +68,15 @@ fn the_room_of_a_recording() {
     assert_eq!(record(script(most + 1).as_bytes()).line, "refused 28\n");
 }
 
-/// A folder and what is in it: a file, a folder, links to both.
+/// A folder and what is in it: a file, a folder, links to both, to a link and to nothing.
 fn before() -> Contents {
     let mut before = Contents::new("/home");
     before.put("file", Entry::File(vec![9]));
     before.put("folder", Entry::Folder);
     before.put("to-file", Entry::Link("file".to_string()));
     before.put("to-folder", Entry::Link("folder".to_string()));
+    before.put("to-link", Entry::Link("to-folder".to_string()));
+    before.put("to-nothing", Entry::Link("none".to_string()));
     before
 }
 
@@ -92,6 +94,9 @@ fn both_files_are_made() {
         // A link is replaced by the file: then the two are two files.
         (["file", "to-file"], ["file", "to-file"]),
         (["to-file", "file"], ["to-file", "file"]),
+        (["to-nothing", "none"], ["to-nothing", "none"]),
+        (["none", "to-nothing"], ["none", "to-nothing"]),
+        (["to-link/a", "to-folder/b"], ["folder/a", "folder/b"]),
     ] {
         let mut wanted = before();
         wanted.put(places[0], Entry::File(vec![1]));
@@ -120,11 +125,40 @@ fn the_first_that_cannot_be_made() {
         // One behind the other.
         (["a", "a/b"], 1),
         (["a/b", "a"], 0),
-        (["to-folder", "to-folder/b"], 1),
+        // A link to a folder, wherever the other one is.
+        (["to-folder", "b"], 0),
+        (["a", "to-folder"], 1),
+        (["to-link", "b"], 0),
+        (["a", "to-link"], 1),
+        (["to-nothing", "to-link"], 1),
+        (["to-folder", "to-folder"], 0),
+        (["to-folder", "to-folder/b"], 0),
+        (["to-folder", "to-folder/../b"], 0),
+        (["to-folder", "none/b"], 0),
         (["to-folder/b", "to-folder"], 1),
+        (["folder/b", "to-link"], 1),
+        (["to-link/b", "to-folder"], 1),
+        // A folder by a slash, of its own or of a link's name.
+        (["folder/", "b"], 0),
+        (["a", "folder/"], 1),
+        (["to-folder/", "b"], 0),
+        (["a", "to-link/"], 1),
+        (["a", "to-nothing/"], 1),
     ] {
         assert_eq!(make(&before(), names, &files), Err(wrong), "{names:?}");
     }
+}
+
+#[test]
+fn one_file_cannot_be_both_even_if_they_are_alike() {
+    let files = Files {
+        trace: vec![1],
+        memory: vec![1],
+    };
+    for names in [["a", "a"], ["a", "folder/../a"], ["to-link/a", "folder/a"]] {
+        assert_eq!(make(&before(), names, &files), Err(1), "{names:?}");
+    }
+    assert!(make(&before(), ["a", "b"], &files).is_ok());
 }
 
 #[test]
@@ -157,6 +191,10 @@ fn the_order_of_the_tests() {
         (&["a", "b", "c"], good, record::USAGE),
         (&["folder", "b"], bad, "error 1\n"),
         (&["folder", "b"], good, "error folder\n"),
+        (&["to-folder", "b"], bad, "error 1\n"),
+        (&["to-folder", "to-folder/b"], good, "error to-folder\n"),
+        (&["to-folder/a", "to-folder"], good, "error to-folder\n"),
+        (&["a", "./a"], good, "error ./a\n"),
         (&["a", "b"], good, "recorded 0 1\n"),
     ] {
         let ended = record::run(&words(arguments), script, &before());

@@ -33,18 +33,23 @@ pub fn length_name(kind: &str) -> String {
     format!("files of limited length: {kind}")
 }
 
-pub fn target_name(kind: &str) -> String {
-    format!("target of a good script: {kind}")
+/// A target of a good script, by whether one of the two files was there before.
+pub fn target_name(kind: &str, old: bool) -> String {
+    match old {
+        false => format!("target: {kind}"),
+        true => format!("target with old files: {kind}"),
+    }
 }
 
 pub fn record_name(first: &str) -> String {
     format!("record: {first}")
 }
 
-/// Which of the two cannot be made, and whether a trace was there that could have been lost.
+/// Which of the two cannot be made, and whether the other was there and could have been lost.
 pub fn not_made_name(second: bool, there: bool) -> &'static str {
     match (second, there) {
-        (false, _) => "record: trace not made",
+        (false, false) => "record: trace not made, no memory before",
+        (false, true) => "record: trace not made, a memory before",
         (true, false) => "record: memory not made, no trace before",
         (true, true) => "record: memory not made, a trace before",
     }
@@ -99,8 +104,10 @@ pub fn expect(tally: &mut Tally) {
     for kind in [RECORDED, REPLAYED] {
         tally.expect(kind);
     }
-    for (second, there) in [(false, false), (true, false), (true, true)] {
-        tally.expect(not_made_name(second, there));
+    for second in [false, true] {
+        for there in [false, true] {
+            tally.expect(not_made_name(second, there));
+        }
     }
     for first in ["usage", "error", "refused"] {
         tally.expect(record_name(first));
@@ -132,7 +139,10 @@ pub fn expect(tally: &mut Tally) {
         tally.expect(length_name(kind));
     }
     for target in targets::all() {
-        tally.expect(target_name(target.kind));
+        tally.expect(target_name(target.kind, false));
+        if target.can_be_old() {
+            tally.expect(target_name(target.kind, true));
+        }
     }
     for kind in MEMORIES {
         tally.expect(memory_name(kind));

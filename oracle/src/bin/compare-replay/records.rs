@@ -32,8 +32,9 @@ pub fn into(
     script: &Made,
     random: &mut Random,
 ) -> Result<(), String> {
+    let name = expected::target_name(target.kind, old.contains(&true));
     match target.place(empty, old, random) {
-        Some(place) => one(comparison, target.kind, place, script)
+        Some(place) => one(comparison, name, place, script)
             .map_err(|difference| format!("{difference}\n{}, {}", target.kind, shown(script))),
         None => Ok(()),
     }
@@ -47,7 +48,13 @@ pub fn over_old(comparison: &mut Comparison, script: &Made) -> Result<(), String
     into(comparison, plain, empty, [true, true], script, random)
 }
 
-fn one(comparison: &mut Comparison, kind: &str, place: Place, script: &Made) -> Result<(), String> {
+/// Records one script; where it is a good one, the target is met.
+fn one(
+    comparison: &mut Comparison,
+    target: String,
+    place: Place,
+    script: &Made,
+) -> Result<(), String> {
     let start = Start {
         arguments: place.names.to_vec(),
         input: &script.text,
@@ -58,12 +65,13 @@ fn one(comparison: &mut Comparison, kind: &str, place: Place, script: &Made) -> 
     let named = |name: &String| ended.output == format!("error {name}\n");
     if first == "recorded" {
         comparison.tally.met(expected::RECORDED);
-        comparison.tally.met(expected::target_name(kind));
+        comparison.tally.met(target);
         again(comparison, &start, script, ended.after)
     } else if place.names.iter().any(named) {
-        comparison.tally.met(expected::target_name(kind));
-        let there = start.before.read(&place.names[0]).is_some();
+        comparison.tally.met(target);
         let second = named(&place.names[1]);
+        let other = &place.names[usize::from(!second)];
+        let there = start.before.read(other).is_some();
         comparison.tally.met(expected::not_made_name(second, there));
         Ok(())
     } else {

@@ -40,8 +40,18 @@ const MADE: &str = "
     trace named as the memory's .new00  | day.new00     | day             |
     trace a link to a file              | day.trace     | day.memory      | day.trace -> other
     memory a link to a file             | day.trace     | day.memory      | day.memory -> folder/inside
-    trace a link to a folder            | day.trace     | day.memory      | day.trace -> folder
-    memory a link to a folder           | day.trace     | day.memory      | day.memory -> folder
+    trace a link to a link to a file    | day.trace     | day.memory      | day.trace -> way, way -> other
+    memory a link to a link to a file   | day.trace     | day.memory      | day.memory -> way, way -> other
+    memory a link in a linked folder    | a             | way/up          | way -> folder, folder/up -> ../other
+    trace a link to nothing             | day.trace     | day.memory      | day.trace -> none
+    memory a link to nothing            | day.trace     | day.memory      | day.memory -> none
+    trace a link to nothing in a folder | day.trace     | day.memory      | day.trace -> folder/none
+    memory a link into no folder        | day.trace     | day.memory      | day.memory -> none/none
+    trace a link through a file         | day.trace     | day.memory      | day.trace -> other/
+    trace a link to a link to nothing   | day.trace     | day.memory      | day.trace -> way, way -> none
+    memory a link to a link to nothing  | day.trace     | day.memory      | day.memory -> way, way -> none
+    trace a link to a name .new00       | day.trace     | day.memory      | day.trace -> .new00
+    memory a link to a name .new01      | day.trace     | day.memory      | day.memory -> .new01
     both links to nothing               | day.trace     | day.memory      | * -> none
     both links to one file              | day.trace     | day.memory      | * -> other
     both links to themselves            | day.trace     | day.memory      | * -> *
@@ -52,28 +62,70 @@ const MADE: &str = "
     memory of 255 characters            | a             | folder/{255}    |
 ";
 
-/// Names of which one cannot be made, or not beside the other.
+/// Names of which one is a folder, or a link that leads to one: no file replaces it.
+const FOLDERS: &str = "
+    trace a folder                      | folder        | b               |
+    memory a folder                     | a             | folder          |
+    memory an empty folder              | a             | folder/below    |
+    memory a folder, trace a link       | a             | folder          | a -> other
+    both folders                        | folder        | folder/below    |
+    trace a folder, memory in it        | folder        | folder/b        |
+    memory a folder, trace in it        | folder/a      | folder          |
+    trace the folder itself             | .             | b               |
+    memory the folder above             | a             | folder/..       |
+    trace a folder by a slash           | folder/       | b               |
+    memory a folder by a slash          | a             | folder/         |
+    trace an empty folder by a slash    | folder/below/ | b               |
+    memory an empty folder by a slash   | a             | folder/below/   |
+    trace a folder by two slashes       | folder//      | b               |
+    memory a folder by a slash and dot  | a             | folder/.        |
+    both folders by a slash             | folder/       | folder/below/   |
+    trace a folder/, memory in it       | folder/       | folder/b        |
+    memory a folder/, trace in it       | folder/a      | folder/         |
+    trace a linked folder by a slash    | way/          | b               | way -> folder
+    memory a linked folder by a slash   | a             | way/            | way -> folder
+    trace a twice linked folder, slash  | way/          | b               | way -> next, next -> folder
+    memory a twice linked folder, slash | a             | way/            | way -> next, next -> folder
+    trace a link to a folder            | way           | b               | way -> folder
+    memory a link to a folder           | a             | way             | way -> folder
+    trace a link to a folder's slash    | way           | b               | way -> folder/
+    memory a link to an empty folder    | a             | way             | way -> folder/below
+    trace a link to a closed folder     | way           | b               | way -> closed, closed!
+    trace a link to its own folder      | way           | b               | way -> .
+    memory a link to the folder above   | a             | folder/way      | folder/way -> ..
+    trace a link to a link to a folder  | way           | b               | way -> next, next -> folder
+    memory a link to a link to a folder | a             | way             | way -> next, next -> folder
+    both links to folders               | a             | b               | a -> folder, b -> folder/below
+    both links to one folder            | a             | b               | * -> folder
+    both one link to a folder           | way           | way             | way -> folder
+    memory to a folder, trace to a file | a             | way             | way -> folder, a -> other
+    memory to a folder, trace nowhere   | a             | way             | way -> folder, a -> none
+    trace to a folder, memory nowhere   | way           | b               | way -> folder, b -> none
+    trace .new00, a link to a folder    | .new00        | b               | .new00 -> folder
+    memory .new00, a link to a folder   | a             | .new00          | .new00 -> folder
+    trace a link, memory behind it      | way           | way/b           | way -> folder
+    trace a link, memory above it       | way           | way/../b        | way -> folder
+    trace a link, memory where it leads | way           | folder/b        | way -> folder
+    trace a link, memory by the next    | way           | next/b          | way -> next, next -> folder
+    memory a link, trace behind it      | way/a         | way             | way -> folder
+    memory a link, trace above it       | way/../a      | way             | way -> folder
+    memory a link, trace where it leads | folder/a      | way             | way -> folder
+    memory a link, trace leads over it  | way/a         | next            | way -> next, next -> folder
+";
+
+/// Other names of which one cannot be made, or not beside the other.
 const NOT_MADE: &str = "
     trace in no folder                  | none/a        | b               |
     memory in no folder                 | a             | none/b          |
     both in no folder                   | none/a        | none/b          |
     trace through no folder             | none/../a     | b               |
     memory through no folder            | a             | none/../b       |
-    trace a folder                      | folder        | b               |
-    memory a folder                     | a             | folder          |
-    memory an empty folder              | a             | folder/below    |
-    memory a folder, trace a link       | a             | folder          | a -> other
     memory in no folder, trace a link   | a             | none/b          | a -> none
-    both folders                        | folder        | folder/below    |
-    trace a folder by a slash           | folder/       | b               |
-    memory a folder by a slash          | a             | folder/below/   |
-    trace a linked folder by a slash    | way/          | b               | way -> folder
-    memory a linked folder by a slash   | a             | way/            | way -> folder
+    trace a link to nothing by a slash  | way/          | b               | way -> none
+    memory a link to a file by a slash  | a             | way/            | way -> other
     trace with a slash                  | a/            | b               |
     memory with a slash                 | a             | b/              |
     trace a file with a slash           | other/        | b               |
-    trace the folder itself             | .             | b               |
-    memory the folder above             | a             | folder/..       |
     trace in a file                     | other/a       | b               |
     memory in a file                    | a             | other/b         |
     memory through a file               | a             | other/../b      |
@@ -93,6 +145,10 @@ const NOT_MADE: &str = "
     one file by its whole path first    | {home}/a      | a               |
     one file by a linked folder         | folder/a      | way/a           | way -> folder
     one file by a linked folder first   | way/a         | folder/a        | way -> folder
+    one file by two linked folders      | way/a         | next/a          | way -> folder, next -> ./folder/
+    one link to a file                  | way           | way             | way -> other
+    one link to nothing, with a dot     | way           | ./way           | way -> none
+    one link in a linked folder         | next/way      | folder/way      | next -> folder, folder/way -> inside
     memory behind the trace             | a             | a/b             |
     trace behind the memory             | a/b           | a               |
 ";
@@ -120,7 +176,7 @@ pub fn made() -> Vec<Target> {
 }
 
 pub fn all() -> Vec<Target> {
-    [rows(MADE), rows(NOT_MADE)].concat()
+    [MADE, FOLDERS, NOT_MADE].map(rows).concat()
 }
 
 pub fn closed() -> Vec<Target> {
@@ -149,6 +205,12 @@ pub struct Place {
 }
 
 impl Target {
+    /// Whether one of the two can be there before.
+    pub fn can_be_old(&self) -> bool {
+        let place = |old| self.place(Contents::new("/home"), old, &mut Random::new(0));
+        OLD[1..].iter().any(|old| place(*old).is_some())
+    }
+
     /// The target in an empty folder. Nothing if a file that should be there cannot be.
     pub fn place(&self, empty: Contents, old: [bool; 2], random: &mut Random) -> Option<Place> {
         let mut before = empty;
@@ -213,7 +275,8 @@ mod tests {
             memory: vec![2; 2_000],
         };
         let random = &mut Random::new(16);
-        for (table, can) in [(MADE, true), (NOT_MADE, false), (CLOSED, false)] {
+        for table in [MADE, FOLDERS, NOT_MADE, CLOSED] {
+            let can = table == MADE;
             for target in rows(table) {
                 for old in OLD {
                     let Some(place) = target.place(Contents::new("/home"), old, random) else {
