@@ -57,7 +57,7 @@ none-before (whole send) w h = absurd (omega arith)
 none-before cut w h = refl
 none-before noEvent w h = refl
 
-walk-ends : (f : ℕ) (s : List ℕ) → sizeOf (front s) ≡ 0 → walks f s .events ≡ []
+pub walk-ends : (f : ℕ) (s : List ℕ) → sizeOf (front s) ≡ 0 → walks f s .events ≡ []
 unfolding walks
 walk-ends zero s h = refl
 walk-ends (suc f) s h = by-bool (eqb (length s) 0) (λ t. rw t) (λ t. rw t (none-before (front s) _ h))

@@ -1,8 +1,9 @@
 // Replays a recorded day, and writes what each of its events answered (docs/TRACE.md).
-mod showing;
+mod day;
 
 use files::Got;
 use libc::STDOUT_FILENO;
+use trace::Summary;
 
 // A trace of 4,096 blocks.
 const TRACE: usize = 2_097_152;
@@ -22,9 +23,9 @@ fn load_memory(buffer: &mut [u8; MEMORY]) -> Got {
     files::load(2, buffer)
 }
 
-// The events of a trace in one piece.
-fn copy(trace: &[u8], events: &mut [u8; EVENTS]) {
-    stream::copy(trace, events);
+// What a trace says, and its events in one piece.
+fn read(trace: &[u8], events: &mut [u8; EVENTS]) -> Summary {
+    trace::read(trace, events)
 }
 
 // The first of them.
@@ -34,15 +35,14 @@ fn first(events: &[u8; EVENTS], n: usize) -> &[u8] {
 
 // Replays a trace, or says why not.
 fn replay(trace: &[u8], memory: &mut [u8; MEMORY], lent: usize) {
-    let summary = trace::look(trace, EVENTS);
+    let mut events = [0u8; EVENTS];
+    let summary = read(trace, &mut events);
     if summary.number != answer::DONE {
-        showing::refused(summary.number, summary.block);
+        day::refused(summary.number, summary.block);
         return;
     }
-    let mut events = [0u8; EVENTS];
-    copy(trace, &mut events);
     let n = summary.bytes;
-    showing::whole_day(
+    day::whole_day(
         summary.base,
         summary.window,
         first(&events, n),
@@ -54,7 +54,7 @@ fn replay(trace: &[u8], memory: &mut [u8; MEMORY], lent: usize) {
 // The same for what was read of a file, where that is all of it.
 fn replay_read(trace: &[u8; TRACE], read: Got, memory: &mut [u8; MEMORY], lent: usize) {
     if read.more {
-        showing::refused(answer::EVENT_ROOM, 0);
+        day::refused(answer::EVENT_ROOM, 0);
         return;
     }
     replay(memory::part(trace, 0, read.count), memory, lent);
