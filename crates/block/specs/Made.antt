@@ -17,7 +17,7 @@ filled used = take 504 (used ++ replicate 504 0)
 unfoldable pub frontOf : ℕ → List ℕ → List ℕ
 frontOf k used = halfBytes k ++ (halfBytes (length used) ++ filled used)
 
--- the block of number k whose used data these are. Of more than 504 bytes, and of a number over 65,535, no block can be made that
--- reads back: nothing asks for one
+-- the block of number k whose used data these are. Of no bytes, of more than 504, and of a number over 65,535, no block can be
+-- made that reads back without a fault: nothing asks for one
 unfoldable pub blockOf : ℕ → List ℕ → List ℕ
 blockOf k used = frontOf k used ++ wordBytes (checkOf (frontOf k used))

@@ -16,7 +16,7 @@ abbrev pub allDigits : List ℕ → Bool
 allDigits [] = true
 allDigits (c ∷ s) = if leb 16 (digit c) then false else allDigits s
 
--- how many bytes a word names: "pairs of hex digits (either case), or `-` for none". No line holds a longer word
+-- how many bytes a word names: "pairs of hexadecimal digits, either case, or `-` for no bytes". No line holds a longer word
 unfoldable pub byteCount : List ℕ → Number
 byteCount word =
     if is word (characters "-") then Is 0 else

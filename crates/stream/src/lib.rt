@@ -11,7 +11,7 @@ ghost use Rattle.stream.specs.Stream.{headerLength, eventBytes};
 // The bytes of the header: the base, and the window's length less one.
 pub const HEADER: usize = 6;
 
-// A block that is wrong by itself, and its number; or, with 0, the place behind the blocks that were tested.
+// A bad block, and the number of its fault; with 0 none, and of `first_fault` then the place behind the blocks.
 pub struct Fault {
     pub number: u32,
     pub block: usize,
