@@ -13,12 +13,12 @@ fn filled(fd: i32, chunk: &mut [u8; CHUNK]) -> usize
     if CHUNK < n { CHUNK } else { n }
 }
 
-// Whether the next n bytes of a chunk are those of the file from an index on.
+// Whether the first n bytes of a chunk, which were read from the file, are those of `bytes` from an index on.
 fn same(chunk: &[u8; CHUNK], n: usize, bytes: &[u8], at: usize) -> bool {
     check::same(memory::part(chunk, 0, n), memory::part(bytes, at, n))
 }
 
-// Whether an open file has these bytes, one behind the other.
+// Whether an open file has these bytes and no more: behind them a read gives none.
 fn has(fd: i32, bytes: &[u8]) -> bool {
     let mut chunk = [0u8; CHUNK];
     let mut at = 0;
@@ -32,16 +32,16 @@ fn has(fd: i32, bytes: &[u8]) -> bool {
         }
         at += n;
     }
-    true
+    filled(fd, &mut chunk) == 0
 }
 
-// Whether the file of this name begins with these bytes.
+// Whether the file of this name holds what was written to it, these bytes and no more.
 pub(crate) fn holds(path: &[u8], bytes: &[u8]) -> bool {
     let fd = os::open_read(path);
     if fd < 0 {
         return false;
     }
-    let whole = has(fd, bytes);
+    let held = has(fd, bytes);
     libc::close(fd);
-    whole
+    held
 }
