@@ -51,15 +51,15 @@ fn day_of(image: &mut [u8; IMAGE], list: &mut [u8; LIST]) -> Day {
 // Says what became of the day. A line that is wrong comes before events without room, wherever it stands.
 fn told(day: Day, image: &[u8; IMAGE], list: &[u8; LIST]) {
     if day.wrong != 0 {
-        messages::numbered(b"error", day.wrong);
+        messages::numbered(b"error ", day.wrong);
         return;
     }
     if !day.begun {
-        messages::numbered(b"error", day.lines);
+        messages::numbered(b"error ", day.lines);
         return;
     }
     if day.full {
-        messages::numbered(b"refused", answer::BLOCK_ROOM as u64);
+        messages::numbered(b"refused ", answer::BLOCK_ROOM as u64);
         return;
     }
     let mut trace = [0u8; TRACE];
@@ -68,7 +68,7 @@ fn told(day: Day, image: &[u8; IMAGE], list: &[u8; LIST]) {
 
 fn main() {
     if os::arg_count() != 3 {
-        messages::line(b"usage: record TRACE MEMORY < SCRIPT");
+        messages::write(b"usage: record TRACE MEMORY < SCRIPT\n");
         return;
     }
     let mut image = [0u8; IMAGE];
