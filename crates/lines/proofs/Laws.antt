@@ -6,14 +6,13 @@ use mathlib.Core.List.{List}
 use native.Mathlib.Nat.{zero-add}
 use native.Mathlib.Omega.{arith}
 use borrow.Author.Tests.{lt-ltb, le-ltb, ne-eqb}
-use lib.Dec.{ltb}
 use lib.ListN.{length, drop, length-take, length-drop, take as front}
 use lib.Seq.{take-all}
 use Rattle.bytes.specs.Bytes.{slice, indexOf}
 use Rattle.rules.proofs.Choices.{if-yes, if-no}
 use Rattle.text.specs.Text.{written, put}
 use Rattle.lines.specs.declared.Input.{Input}
-use Rattle.lines.specs.Taking.{left, ends, goesOn, taken, take}
+use Rattle.lines.specs.Taking.{left, taken, take}
 use Rattle.lines.specs.Reading.{over, refilled, read, More}
 
 -- all of a list is a slice of it

@@ -14,7 +14,6 @@ use Rattle.event.specs.Sizes.{sizeOf}
 use Rattle.event.specs.Walk.{before, behind, walks, walk}
 use Rattle.event.proofs.Fronts.{front-of-none, size-fits}
 use Rattle.event.proofs.Laws.{size-room}
-use Rattle.enet.specs.declared.Enet.{Enet}
 use Rattle.enet.specs.declared.Answered.{Answered}
 use Rattle.enet.specs.Device.{new}
 use Rattle.text.specs.Text.{written, put}

@@ -4,7 +4,6 @@ use Prim.Native.Nat.{_+_, _*_, _≤_, _-_}
 use mathlib.Core.Path.{_≡_}
 use native.Mathlib.Nat.{zero-add}
 use native.Mathlib.Omega.{arith}
-use lib.ListN.{length}
 use Rattle.block.proofs.Weights.{left, weigh-turn, weigh-end}
 use Rattle.block.proofs.sums.weigh.Statement.{statement}
 use Rattle.block.proofs.sums.weigh.Tie as tie
