@@ -2,12 +2,12 @@
 use mathlib.Core.Path.{_≡_, refl}
 use mathlib.Core.Bool.{true, false}
 use mathlib.Core.Logic.{_⊎_, inl, inr, ⊎-map}
-use Prim.Native.Nat.{ℕ, _+_, _-_, _%_, _≤_, _<_}
+use Prim.Native.Nat.{ℕ, _+_, _-_, _/_, _%_, _≤_, _<_}
 use lib.Dec.{eqb, leb}
 use borrow.Author.Tests.{le-leb, lt-leb, leb-true}
 use Rattle.rules.proofs.Choices.{by-bool, either}
 use Rattle.memory.proofs.Stores.{Apart}
-use Rattle.address.specs.Address.{aligned, placeOf, apart}
+use Rattle.address.specs.Address.{aligned, placeOf, polls, apart}
 
 pub aligned-is : (a : ℕ) → eqb (a % 4) 0 ≡ aligned a
 unfolding aligned
@@ -16,6 +16,10 @@ aligned-is a = refl
 pub place-is : (w : ℕ) → w - w % 4 ≡ placeOf w
 unfolding placeOf
 place-is w = refl
+
+pub polls-is : (w : ℕ) → eqb (w / 1 % 2) 1 ≡ polls w
+unfolding polls
+polls-is w = refl
 
 module _ (a n b k : ℕ) where
   pub before-apart : a + n ≤ b → true ≡ apart a n b k

@@ -10,10 +10,10 @@ use Rattle.engine.specs.declared.Engine.{Engine}
 use Rattle.enet.specs.declared.Enet.{Enet}
 use Rattle.registers.specs.declared.Register.{Register}
 use Rattle.registers.specs.declared.Register.the-variants.{Ier, Isr, RxStart, RxNext, TxStart, TxNext, Mcr, Mah, Mal, Mcha, Mcla, Unmodelled}
-use Rattle.enet.specs.Device.{withRegisters, withRx, withTx, raised, rxStopped, txStopped}
-use Rattle.engine.specs.Engine.{ledTo, stopped, dmaEnabled, startFetch, startWritten}
-use Rattle.receiving.specs.Receiving.{rxAdvanced}
-use Rattle.sending.specs.Sending.{txAdvanced}
+use Rattle.enet.specs.Device.{withRegisters, withRx, withTx, raised, rxStopped, txStopped, rxNotGranted, txNotGranted}
+use Rattle.engine.specs.Engine.{ledTo, stopped, notGranted}
+use Rattle.engine_write.specs.EngineWrite.{dmaEnabled, startFetch, startWritten}
+use Rattle.outcomes.specs.Outcomes.{rxAdvanced, txAdvanced}
 use Rattle.registers.specs.Registers.{rxCurrDone, rxDone, txCurrDone, txDone, packetLost}
 use Rattle.registers.specs.Access.{registerAt}
 use Rattle.register_write.specs.Write.{written}
@@ -77,7 +77,7 @@ write-parts b address value =
 -- ---- receiving and sending
 
 pub receive-parts : (d : Enet) (m frame : List ℕ) → ReceiveOnly d (receive d m frame .device)
-unfolding rxAdvanced
+unfolding rxAdvanced notGranted
 receive-parts d m frame =
     by-receive (λ o. ReceiveOnly d (o .device)) d m frame same same same same same stops lost
     (by-test (λ r. ReceiveOnly d (withRegisters d r)) (nextEnabled (d .base) m (d .registers .rx .place)) _ _ (λ _. moves _) (λ _. ends))
@@ -88,8 +88,11 @@ receive-parts d m frame =
     stops : ReceiveOnly d (rxStopped d)
     stops = record { others = refl; engine = record { start = refl; next = refl } }
 
-    lost : ReceiveOnly d (raised d packetLost)
-    lost = record { others = refl; engine = record { start = refl; next = refl } }
+    lost : ReceiveOnly d (rxNotGranted (raised d packetLost))
+    lost =
+        by-test (λ e. ReceiveOnly d (withRx (raised d packetLost) e)) (d .registers .rx .polling) _ _
+        (λ _. record { others = refl; engine = record { start = refl; next = refl } })
+        (λ _. record { others = refl; engine = record { start = refl; next = refl } })
 
     moves : (p : ℕ) → ReceiveOnly d (withRx (raised d rxCurrDone) (ledTo (d .registers .rx) p))
     moves p = record { others = refl; engine = record { start = refl; next = refl } }
@@ -98,9 +101,9 @@ receive-parts d m frame =
     ends = record { others = refl; engine = record { start = refl; next = refl } }
 
 pub send-parts : (d : Enet) (m out : List ℕ) → SendOnly d (send d m out .device)
-unfolding txAdvanced
+unfolding txAdvanced notGranted
 send-parts d m out =
-    by-send (λ s. SendOnly d (s .device)) d m out same same same stops same stops
+    by-send (λ s. SendOnly d (s .device)) d m out same same same stops ungranted stops
     (λ _ _. by-test (λ r. SendOnly d (withRegisters d r)) (nextEnabled (d .base) m (d .registers .tx .place)) _ _ (λ _. moves _) (λ _. ends))
   where
     same : SendOnly d d
@@ -108,6 +111,12 @@ send-parts d m out =
 
     stops : SendOnly d (txStopped d)
     stops = record { others = refl; engine = record { start = refl; next = refl } }
+
+    ungranted : SendOnly d (txNotGranted d)
+    ungranted =
+        by-test (λ e. SendOnly d (withTx d e)) (d .registers .tx .polling) _ _
+        (λ _. record { others = refl; engine = record { start = refl; next = refl } })
+        (λ _. record { others = refl; engine = record { start = refl; next = refl } })
 
     moves : (p : ℕ) → SendOnly d (withTx (raised d txCurrDone) (ledTo (d .registers .tx) p))
     moves p = record { others = refl; engine = record { start = refl; next = refl } }

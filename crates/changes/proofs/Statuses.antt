@@ -8,8 +8,7 @@ use Rattle.descriptor.specs.Descriptor.{nextEnabled}
 use Rattle.enet.specs.declared.Enet.{Enet}
 use Rattle.registers.specs.declared.Registers.{Registers}
 use Rattle.registers.specs.Registers.{txCurrDone, txDone, rxCurrDone, rxDone, packetLost}
-use Rattle.receiving.specs.Receiving.{rxAdvanced}
-use Rattle.sending.specs.Sending.{txAdvanced}
+use Rattle.outcomes.specs.Outcomes.{rxAdvanced, txAdvanced}
 use Rattle.enet.specs.Send.{send}
 use Rattle.enet.specs.Run.{Running, sends, run}
 use Rattle.calls.specs.Calls.{Bench, receiveCall, stepRun}

@@ -6,7 +6,8 @@ use mathlib.Core.List.{List}
 use lib.Dec.{eqb, ltb}
 use lib.ListN.{length}
 use Rattle.window.specs.Window.{lent}
-use Rattle.sending.specs.Sending.{sendNumber, txRefused}
+use Rattle.outcomes.specs.Outcomes.{txRefused}
+use Rattle.sending.specs.Sending.{sendNumber}
 use Rattle.enet.specs.declared.Enet.{Enet}
 use Rattle.enet.specs.Send.{send}
 use Rattle.enet.proofs.Ways.{refused}

@@ -12,7 +12,7 @@ use Rattle.registers.specs.declared.Register.{Register}
 use Rattle.registers.specs.declared.Register.the-variants.{Ier, Isr, RxStart, RxNext, TxStart, TxNext, Mcr, Mah, Mal, Mcha, Mcla, Unmodelled}
 use Rattle.registers.specs.Registers.{txCurrDone, txDone, rxCurrDone, rxDone, packetLost}
 use Rattle.registers.specs.Registers.{withStatus, withEnable, withFilter}
-use Rattle.engine.specs.Engine.{nextWritten}
+use Rattle.engine_write.specs.EngineWrite.{nextWritten}
 use Rattle.enet.specs.Device.{withRegisters, withRx, withTx}
 use Rattle.registers.specs.Access.{registerAt}
 use Rattle.calls.specs.Calls.{Bench, Call, looks, registerWrite, grantCall, receiveCall, burstCall, sendCall, stepRun, call}
@@ -28,7 +28,8 @@ statusOf d e = withRegisters d (withStatus (d .registers) (e .registers .isr))
 abbrev pub filtered : Enet → Filter → Enet
 filtered d f = withRegisters d (withFilter (d .registers) f)
 
--- a register write changes its register, and a start write whether its engine runs and its place: d with these of e
+-- a register write changes its register, and a start write whether its engine runs, its place and whether polling is enabled
+-- for it: d with these of e
 abbrev pub registerOf : Register → Enet → Enet → Enet
 registerOf Ier d e = withRegisters d (withEnable (d .registers) (e .registers .ier))
 registerOf Isr d e = statusOf d e
@@ -48,7 +49,7 @@ pub record SameRegisters (x y : Engine) : Type 0 where
   pub start : y .start ≡ x .start
   pub next : y .next ≡ x .next
 
--- receiving changes the status, and whether its engine runs and its place
+-- receiving changes the status, and whether its engine runs, its place and whether polling is enabled for it
 pub record ReceiveOnly (d e : Enet) : Type 0 where
   pub others : e ≡ withRx (statusOf d e) (e .registers .rx)
   pub engine : SameRegisters (d .registers .rx) (e .registers .rx)

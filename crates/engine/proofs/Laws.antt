@@ -1,43 +1,28 @@
 -- What each function answers, as laws of its definition. Assumes nothing.
 use mathlib.Core.Path.{_≡_, refl}
-use mathlib.Core.Bool.{true, false}
-use Prim.Native.Nat.{ℕ, _/_, _%_}
-use borrow.Author.Tests.{eq-eqb, ne-eqb}
-use Rattle.address.specs.Address.{placeOf}
+use mathlib.Core.Bool.{Bool, true, false}
+use Prim.Native.Nat.{ℕ}
+use Rattle.rules.proofs.Choices.{if-yes, if-no}
+use Rattle.address.specs.Address.{placeOf, polls}
 use Rattle.engine.specs.declared.Engine.{Engine}
-use Rattle.engine.specs.Engine.{made, withStart, withRunning, ledTo, engineReset, stopped, startWritten, nextWritten}
+use Rattle.engine.specs.Engine.{made, ledTo, engineReset, stopped, notGranted}
 
-pub starts-still : (start next : ℕ) → made start next false 0 ≡ engineReset start next
+pub starts-still : (start next : ℕ) → made start next false 0 false ≡ engineReset start next
 starts-still start next = refl
 
 module _ (e : Engine) where
-  pub place-led-to : (w p : ℕ) → p ≡ placeOf w → made (e .start) (e .next) (e .running) p ≡ ledTo e w
-  place-led-to w p h = rw h
+  pub place-led-to : (w p : ℕ) (t : Bool) → p ≡ placeOf w → t ≡ polls w → made (e .start) (e .next) (e .running) p t ≡ ledTo e w
+  place-led-to w p t h k = rw (h, k)
 
-  pub runs-no-more : made (e .start) (e .next) false (e .place) ≡ stopped e
+  pub runs-no-more : made (e .start) (e .next) false (e .place) (e .polling) ≡ stopped e
   runs-no-more = refl
 
-  pub next-kept : (v : ℕ) → made (e .start) v (e .running) (e .place) ≡ nextWritten e v
-  next-kept v = refl
+  -- ---- a descriptor that is not granted
 
-  -- ---- the ways out of a start write
-  module _ (v : ℕ) where
-    pub disabled-stops : (v / 1 % 2 ≡ 1 → ⊥) → (r : Engine) → r ≡ stopped (withStart e v) → r ≡ startWritten e v
-    unfolding startWritten
-    disabled-stops h r q = rw (ne-eqb (v / 1 % 2) 1 h) q
+  pub polling-looks-again : e .polling ≡ true → e ≡ notGranted e
+  unfolding notGranted
+  polling-looks-again t = if-yes (e .polling) e e (stopped e) t refl
 
-    module _ (enabled : v / 1 % 2 ≡ 1) where
-      pub running-stays : e .running ≡ true → withStart e v ≡ startWritten e v
-      unfolding startWritten
-      running-stays t = rw (eq-eqb (v / 1 % 2) 1 enabled, t)
-
-      pub fetch-starts : e .running ≡ false → v / 4 % 2 ≡ 1 → (s : Engine) → s ≡ ledTo (withStart e v) (e .next)
-          → withRunning s true ≡ startWritten e v
-      unfolding startWritten
-      fetch-starts t f s q = rw (q, eq-eqb (v / 1 % 2) 1 enabled, t, eq-eqb (v / 4 % 2) 1 f)
-
-      pub no-fetch-waits : e .running ≡ false → (v / 4 % 2 ≡ 1 → ⊥) → withStart e v ≡ startWritten e v
-      unfolding startWritten
-      no-fetch-waits t f = rw (eq-eqb (v / 1 % 2) 1 enabled, t, ne-eqb (v / 4 % 2) 1 f)
-
-pub ruleset start-ways = (disabled-stops, running-stays, fetch-starts, no-fetch-waits)
+  pub no-polling-stops : e .polling ≡ false → (s : Engine) → s ≡ stopped e → s ≡ notGranted e
+  unfolding notGranted
+  no-polling-stops t s q = if-no (e .polling) s e (stopped e) t q

@@ -1,13 +1,15 @@
 // One of the two DMA engines of the device.
 ghost use mathlib.Core.Path.{_≡_};
-ghost use Rattle.engine.specs.Engine.{ledTo, engineReset, stopped, startWritten, nextWritten};
+ghost use Rattle.engine.specs.Engine.{ledTo, engineReset, stopped, notGranted};
 
-// Its start register, its next-descriptor register, whether it runs, and its place in the chain.
+// Its start register, its next-descriptor register, whether it runs, its place in the chain, and whether polling is enabled for
+// that place.
 pub struct Engine {
     pub start: u32,
     pub next: u32,
     pub running: bool,
     pub place: u32,
+    pub polling: bool,
 }
 
 impl Engine {
@@ -25,19 +27,23 @@ impl Engine {
             next,
             running: false,
             place: 0,
+            polling: false,
         }
     }
 
-    // Its place is where a word leads: that of the next-descriptor register at a start, of the descriptor at a move.
+    // Its place is where a word leads, and the word's polling bit holds for it: that of the next-descriptor register at a start,
+    // of the descriptor at a move.
     pub fn led_to(mut self, word: u32) -> Engine
         ensures { λ r. ⌜ r ≡ ledTo self word ⌝ }
     {
         let place = address::place_of(word);
+        let polling = address::polls(word);
         self.place = place;
+        self.polling = polling;
         self
     }
 
-    // The engine stops; its registers and its place stay.
+    // The engine stops; its registers, its place and the polling bit stay.
     pub fn stopped(mut self) -> Engine
         ensures { λ r. ⌜ r ≡ stopped self ⌝ }
     {
@@ -45,30 +51,13 @@ impl Engine {
         self
     }
 
-    // A start write.
-    pub fn start_written(mut self, v: u32) -> Engine
-        ensures { λ r. ⌜ r ≡ startWritten self v ⌝ }
+    // Its descriptor is not granted: without polling the engine stops; with polling it looks again.
+    pub fn not_granted(self) -> Engine
+        ensures { λ r. ⌜ r ≡ notGranted self ⌝ }
     {
-        self.start = v;
-        if v / Engine::DMA_EN % 2 != 1 {
-            return self.stopped();
-        }
-        if self.running {
+        if self.polling {
             return self;
         }
-        if v / Engine::START_FETCH % 2 == 1 {
-            let mut started = self.led_to(self.next);
-            started.running = true;
-            return started;
-        }
-        self
-    }
-
-    // A next-descriptor write.
-    pub fn next_written(mut self, v: u32) -> Engine
-        ensures { λ r. ⌜ r ≡ nextWritten self v ⌝ }
-    {
-        self.next = v;
-        self
+        self.stopped()
     }
 }

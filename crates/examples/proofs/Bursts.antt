@@ -7,7 +7,7 @@ use native.Mathlib.Omega.{arith}
 use lib.ListN.{replicate}
 use Rattle.memory.specs.Memory.{word, wordBytes, store}
 use Rattle.window.specs.Window.{lent, inWindow, holdsDescriptor}
-use Rattle.address.specs.Address.{apart, aligned, placeOf}
+use Rattle.address.specs.Address.{apart, aligned, placeOf, polls}
 use Rattle.descriptor.specs.Descriptor.{count, nextEnabled, start, nextWord, next}
 use Rattle.packet_status.specs.PacketStatus.{packetStatus, granted, withPacketStatus}
 use Rattle.chain.specs.Buffer.{bytesFault, bufferFault}
@@ -16,8 +16,10 @@ use Rattle.fcs.specs.CheckSequence.{checkNumber, checkSequence, checkRight}
 use Rattle.frame.specs.Length.{lengthAllowed}
 use Rattle.filter.specs.Address.{accepts}
 use Rattle.frame.specs.Frame.{frameNumber}
-use Rattle.receiving.specs.Receiving.{rxRefused, rxAdvanced, receiveNumber, delivered}
-use Rattle.engine.specs.Engine.{startWritten}
+use Rattle.outcomes.specs.Outcomes.{rxRefused, rxAdvanced}
+use Rattle.receiving.specs.Receiving.{receiveNumber, delivered}
+use Rattle.engine.specs.Engine.{notGranted}
+use Rattle.engine_write.specs.EngineWrite.{startWritten}
 use Rattle.enet.specs.Frames.{grant, receive}
 use Rattle.chain.specs.Chain.{chainNumber}
 use Rattle.granting.specs.Granting as plain
@@ -85,7 +87,7 @@ pub record BurstExample : Type 0 where
 
 all-permitted : Obeys (ring 2) 2 first (begin (ring 2)) steps
 unfolding
-    follow placeOf startWritten grant plain.grant grantNumber holdsDescriptor lent aligned inWindow granted packetStatus withPacketStatus word wordBytes store
+    follow placeOf polls startWritten grant plain.grant grantNumber holdsDescriptor lent aligned inWindow granted packetStatus withPacketStatus word wordBytes store
 all-permitted = (
   granting (ring 2) 2 first _ first refl,
   (
@@ -96,10 +98,10 @@ all-permitted = (
 
 pub a-burst : BurstExample
 unfolding
-    lent aligned inWindow apart placeOf follow
+    lent aligned inWindow apart placeOf polls follow
     count nextEnabled start nextWord next packetStatus granted withPacketStatus bufferFault bytesFault word wordBytes store
     frame other frameNumber lengthAllowed accepts checkRight checkSequence checkNumber checkBits registerBits remainder generator
-    receive receiving.receive receiveAt receiveNumber chainNumber rxRefused delivered rxAdvanced
+    receive receiving.receive receiveAt receiveNumber chainNumber rxRefused notGranted delivered rxAdvanced
     grant plain.grant grantNumber holdsDescriptor startWritten afterSteps deliveredBy
     passes bytesOf received receives refuses burst pairsOf uneven burstOf taken framesInside answersInside
 a-burst =

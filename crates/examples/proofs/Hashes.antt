@@ -6,7 +6,7 @@ use mathlib.Core.List.{List, [], _∷_, _++_}
 use lib.ListN.{replicate}
 use Rattle.memory.specs.Memory.{word, wordBytes, store}
 use Rattle.window.specs.Window.{lent, inWindow, holdsDescriptor}
-use Rattle.address.specs.Address.{apart, aligned, placeOf}
+use Rattle.address.specs.Address.{apart, aligned, placeOf, polls}
 use Rattle.descriptor.specs.Descriptor.{count, nextEnabled, start, nextWord, next}
 use Rattle.packet_status.specs.PacketStatus.{packetStatus, granted, withPacketStatus}
 use Rattle.chain.specs.Buffer.{bytesFault, bufferFault}
@@ -18,8 +18,10 @@ use Rattle.frame.specs.Length.{lengthAllowed}
 use Rattle.frame.specs.Frame.{frameNumber}
 use Rattle.registers.specs.declared.Register.the-variants.{Mcr, Mcla}
 use Rattle.register_write.specs.Write.{written}
-use Rattle.receiving.specs.Receiving.{rxRefused, rxAdvanced, receiveNumber, delivered}
-use Rattle.engine.specs.Engine.{startWritten}
+use Rattle.outcomes.specs.Outcomes.{rxRefused, rxAdvanced}
+use Rattle.receiving.specs.Receiving.{receiveNumber, delivered}
+use Rattle.engine.specs.Engine.{notGranted}
+use Rattle.engine_write.specs.EngineWrite.{startWritten}
 use Rattle.enet.specs.Device.{made}
 use Rattle.enet.specs.Frames.{grant, receive}
 use Rattle.chain.specs.Chain.{chainNumber}
@@ -74,11 +76,12 @@ pub record HashExample : Type 0 where
   pub claim : Claim byHash 1 first steps
 
 start-here : Start byHash 1 first
-unfolding startWritten placeOf
+unfolding startWritten placeOf polls
 start-here = record {
   ring = ring-of-one .starts .ring;
   receiving = refl;
   place = refl;
+  polling = refl;
   sending = refl;
   returned = ring-of-one .starts .returned;
 }
@@ -95,11 +98,11 @@ all-permitted = (
 
 pub a-group : HashExample
 unfolding
-    lent aligned inWindow apart placeOf follow
+    lent aligned inWindow apart placeOf polls follow
     count nextEnabled start nextWord next packetStatus granted withPacketStatus bufferFault bytesFault word wordBytes store
     taken turned frameNumber lengthAllowed accepts hashAccepts hashIndex
     checkRight checkSequence checkNumber checkBits registerBits remainder generator
-    receive receiving.receive receiveAt receiveNumber chainNumber rxRefused delivered rxAdvanced
+    receive receiving.receive receiveAt receiveNumber chainNumber rxRefused notGranted delivered rxAdvanced
     grant plain.grant grantNumber holdsDescriptor startWritten afterSteps deliveredBy
 a-group = record {
   starts = start-here;

@@ -1,3 +1,4 @@
 pub mod Examples
 pub mod Bursts
 pub mod Hashes
+pub mod Polling

@@ -13,8 +13,8 @@ use borrow.Author.Tests.{leb-true, eqb-true}
 use Rattle.rules.proofs.Choices.{and-parts}
 use Rattle.memory.proofs.Stores.{Apart}
 use Rattle.window.specs.Window.{lent}
-use Rattle.address.specs.Address.{aligned}
-use Rattle.descriptor.specs.Descriptor.{count, nextEnabled, start, next}
+use Rattle.address.specs.Address.{aligned, polls}
+use Rattle.descriptor.specs.Descriptor.{count, nextEnabled, start, nextWord, next}
 use Rattle.ring.specs.Ring.{soundDescriptor, regionsApart, apartFromRest, ringFrom, soundRing}
 use Rattle.links.specs.Links.{follow, Clear, Closed}
 use Rattle.window.proofs.Laws.{in-window}
@@ -29,6 +29,7 @@ module _ (base window : ℕ) (m : List ℕ) where
     pub low : base ≤ d
     pub fits : d + 16 ≤ base + window
     pub linked : nextEnabled base m d ≡ true
+    pub polled : polls (nextWord base m d) ≡ true
     pub room : 1518 ≤ count base m d
     pub flat : aligned (start base m d) ≡ true
     pub low-buffer : base ≤ start base m d
@@ -42,13 +43,15 @@ module _ (base window : ℕ) (m : List ℕ) where
       let q = and-parts _ _ (p .0) in
       let r = and-parts _ _ (q .0) in
       let s = and-parts _ _ (r .0) in
+      let u = and-parts _ _ (s .0) in
       let t = and-parts _ _ (p .1) in
-      let i = in-window base window d 16 (s .0) in
+      let i = in-window base window d 16 (u .0) in
       let j = in-window base window (start base m d) (count base m d) (t .0) in
       record {
         low = i .0;
         fits = i .1;
-        linked = s .1;
+        linked = u .1;
+        polled = s .1;
         room = leb-true _ _ (r .1);
         flat = q .1;
         low-buffer = j .0;

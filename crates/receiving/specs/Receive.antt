@@ -9,7 +9,8 @@ use Rattle.descriptor.specs.Descriptor.{nextEnabled, nextWord}
 use Rattle.frame.specs.Frame.{frameNumber}
 use Rattle.registers.specs.declared.Registers.{Registers}
 use Rattle.registers.specs.declared.Change.{Change}
-use Rattle.receiving.specs.Receiving.{receiveNumber, rxRefused, delivered, rxAdvanced}
+use Rattle.outcomes.specs.Outcomes.{rxRefused, rxAdvanced}
+use Rattle.receiving.specs.Receiving.{receiveNumber, delivered}
 
 -- what a receive gives: its number, the registers and the memory that it leaves
 pub record Received : Type 0 where

@@ -5,7 +5,7 @@ use lib.Dec.{eqb}
 use lib.Bits.{bitAnd}
 use Rattle.rules.specs.Choice.{if_then_else_}
 use Rattle.filter.specs.Filter.{withMcr, withMah, withMal, withMcha, withMcla}
-use Rattle.engine.specs.Engine.{startWritten, nextWritten}
+use Rattle.engine_write.specs.EngineWrite.{startWritten, nextWritten}
 use Rattle.registers.specs.declared.Registers.{Registers}
 use Rattle.registers.specs.declared.Change.{Change}
 use Rattle.registers.specs.declared.Register.{Register}
@@ -18,7 +18,8 @@ use Rattle.writable.specs.Writable.{kept}
 abbrev pub cleared : ℕ → ℕ → ℕ
 cleared isr v = bitAnd isr (2 ^ 32 - 1 - v)
 
--- the registers with what is kept of a value. "All other writable bits .. are stored without effect"
+-- the registers with what is kept of a value. "All other writable bits .. are stored without effect"; of the next-descriptor
+-- registers 02, Wish 5, gives NPOL_EN its effect, at a start
 abbrev pub stored : Registers → Register → ℕ → Registers
 stored r Ier v = withEnable r v
 stored r Isr v = withStatus r (cleared (r .isr) v)

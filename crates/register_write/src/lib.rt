@@ -30,22 +30,22 @@ fn stored(r: Registers, register: Register, v: u32) -> Registers
             next
         }
         Register::RxStart => {
-            let e = rx.start_written(v);
+            let e = engine_write::start_written(rx, v);
             next.rx = e;
             next
         }
         Register::RxNext => {
-            let e = rx.next_written(v);
+            let e = engine_write::next_written(rx, v);
             next.rx = e;
             next
         }
         Register::TxStart => {
-            let e = tx.start_written(v);
+            let e = engine_write::start_written(tx, v);
             next.tx = e;
             next
         }
         Register::TxNext => {
-            let e = tx.next_written(v);
+            let e = engine_write::next_written(tx, v);
             next.tx = e;
             next
         }

@@ -8,8 +8,8 @@ use borrow.Author.Tests.{le-leb, lt-leb}
 use lib.Dec.{eqb, leb}
 use Rattle.rules.proofs.Choices.{said-yes, said-no, and-yes, and-no, and-last, is-and, is-and-no, is-and-last}
 use Rattle.window.specs.Window.{lent, inWindow}
-use Rattle.address.specs.Address.{apart, aligned}
-use Rattle.descriptor.specs.Descriptor.{count, nextEnabled, start, next}
+use Rattle.address.specs.Address.{apart, aligned, polls}
+use Rattle.descriptor.specs.Descriptor.{count, nextEnabled, start, nextWord, next}
 use Rattle.ring.specs.Ring.{soundDescriptor, regionsApart, apartFromRest, ringFrom, soundRing}
 
 -- ---- sound_descriptor: which of its tests fails, and the facts that led past those before it
@@ -17,7 +17,7 @@ use Rattle.ring.specs.Ring.{soundDescriptor, regionsApart, apartFromRest
 module _ (base window : ℕ) (m : List ℕ) (d : ℕ) (i : Bool) (ei : i ≡ inWindow base window d 16) where
   pub descriptor-outside : not i ≡ true → false ≡ soundDescriptor base window m d
   unfolding soundDescriptor
-  descriptor-outside h = is-and-no _ _ (and-no _ _ (and-no _ _ (and-no _ _ (said-no (inWindow base window d 16) i ei h))))
+  descriptor-outside h = is-and-no _ _ (and-no _ _ (and-no _ _ (and-no _ _ (and-no _ _ (said-no (inWindow base window d 16) i ei h)))))
 
   module _ (n : Bool) (yi : not i ≡ false) (en : n ≡ nextEnabled base m d) where
     inside : inWindow base window d 16 ≡ true
@@ -25,40 +25,51 @@ module _ (base window : ℕ) (m : List ℕ) (d : ℕ) (i : Bool) (ei : i ≡ inW
 
     pub next-disabled : not n ≡ true → false ≡ soundDescriptor base window m d
     unfolding soundDescriptor
-    next-disabled h = is-and-no _ _ (and-no _ _ (and-no _ _ (and-last _ _ inside (said-no (nextEnabled base m d) n en h))))
+    next-disabled h = is-and-no _ _ (and-no _ _ (and-no _ _ (and-no _ _ (and-last _ _ inside (said-no (nextEnabled base m d) n en h)))))
 
-    module _ (k : ℕ) (yn : not n ≡ false) (ek : k ≡ count base m d) where
+    module _ (w : ℕ) (o : Bool) (yn : not n ≡ false) (ew : w ≡ nextWord base m d) (eo : o ≡ polls w) where
       enabled : (inWindow base window d 16 && nextEnabled base m d) ≡ true
       enabled = and-yes _ _ inside (said-yes (nextEnabled base m d) n en yn)
 
-      pub count-under-1518 : k < 1518 → false ≡ soundDescriptor base window m d
+      bit-is : o ≡ polls (nextWord base m d)
+      bit-is = rw ew at eo
+
+      pub polling-disabled : not o ≡ true → false ≡ soundDescriptor base window m d
       unfolding soundDescriptor
-      count-under-1518 h = is-and-no _ _ (and-no _ _ (and-last _ _ enabled (lt-leb 1518 (count base m d) (rw ek at h))))
+      polling-disabled h = is-and-no _ _ (and-no _ _ (and-no _ _ (and-last _ _ enabled (said-no (polls (nextWord base m d)) o bit-is h))))
 
-      module _ (a : Bool) (long : 1518 ≤ k) (ea : a ≡ aligned (start base m d)) where
-        roomy : (inWindow base window d 16 && nextEnabled base m d && leb 1518 (count base m d)) ≡ true
-        roomy = and-yes _ _ enabled (le-leb 1518 (count base m d) (rw ek at long))
+      module _ (k : ℕ) (yo : not o ≡ false) (ek : k ≡ count base m d) where
+        polled : (inWindow base window d 16 && nextEnabled base m d && polls (nextWord base m d)) ≡ true
+        polled = and-yes _ _ enabled (said-yes (polls (nextWord base m d)) o bit-is yo)
 
-        pub start-misaligned : not a ≡ true → false ≡ soundDescriptor base window m d
+        pub count-under-1518 : k < 1518 → false ≡ soundDescriptor base window m d
         unfolding soundDescriptor
-        start-misaligned h = is-and-no _ _ (and-last _ _ roomy (said-no (aligned (start base m d)) a ea h))
+        count-under-1518 h = is-and-no _ _ (and-no _ _ (and-last _ _ polled (lt-leb 1518 (count base m d) (rw ek at h))))
 
-        module _ (s : ℕ) (w : Bool) (ya : not a ≡ false) (es : s ≡ start base m d) (ew : w ≡ inWindow base window s k) where
-          placed : (inWindow base window d 16 && nextEnabled base m d && leb 1518 (count base m d) && aligned (start base m d)) ≡ true
-          placed = and-yes _ _ roomy (said-yes (aligned (start base m d)) a ea ya)
+        module _ (a : Bool) (long : 1518 ≤ k) (ea : a ≡ aligned (start base m d)) where
+          roomy : (inWindow base window d 16 && nextEnabled base m d && polls (nextWord base m d) && leb 1518 (count base m d)) ≡ true
+          roomy = and-yes _ _ polled (le-leb 1518 (count base m d) (rw ek at long))
 
-          within : w ≡ inWindow base window (start base m d) (count base m d)
-          within = rw (es, ek) at ew
-
-          pub buffer-outside : not w ≡ true → false ≡ soundDescriptor base window m d
+          pub start-misaligned : not a ≡ true → false ≡ soundDescriptor base window m d
           unfolding soundDescriptor
-          buffer-outside h = is-and-last _ _ placed (and-no _ _ (said-no (inWindow base window (start base m d) (count base m d)) w within h))
+          start-misaligned h = is-and-no _ _ (and-last _ _ roomy (said-no (aligned (start base m d)) a ea h))
 
-          pub by-own-regions : (r : Bool) → not w ≡ false → r ≡ apart s k d 16 → r ≡ soundDescriptor base window m d
-          unfolding soundDescriptor
-          by-own-regions r yw e =
-              is-and _ _ _ placed (
-              is-and _ _ _ (said-yes (inWindow base window (start base m d) (count base m d)) w within yw) (rw (es, ek) at e))
+          module _ (s : ℕ) (v : Bool) (ya : not a ≡ false) (es : s ≡ start base m d) (ev : v ≡ inWindow base window s k) where
+            placed : (inWindow base window d 16 && nextEnabled base m d && polls (nextWord base m d) && leb 1518 (count base m d) && aligned (start base m d)) ≡ true
+            placed = and-yes _ _ roomy (said-yes (aligned (start base m d)) a ea ya)
+
+            within : v ≡ inWindow base window (start base m d) (count base m d)
+            within = rw (es, ek) at ev
+
+            pub buffer-outside : not v ≡ true → false ≡ soundDescriptor base window m d
+            unfolding soundDescriptor
+            buffer-outside h = is-and-last _ _ placed (and-no _ _ (said-no (inWindow base window (start base m d) (count base m d)) v within h))
+
+            pub by-own-regions : (r : Bool) → not v ≡ false → r ≡ apart s k d 16 → r ≡ soundDescriptor base window m d
+            unfolding soundDescriptor
+            by-own-regions r yv e =
+                is-and _ _ _ placed (
+                is-and _ _ _ (said-yes (inWindow base window (start base m d) (count base m d)) v within yv) (rw (es, ek) at e))
 
 -- ---- regions_apart
 

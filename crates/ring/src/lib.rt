@@ -12,6 +12,9 @@ fn sound_descriptor(base: u32, window: u32, m: &[u8], d: u32) -> bool
     if !descriptor::next_enabled(base, m, d) {
         return false;
     }
+    if !address::polls(descriptor::next_word(base, m, d)) {
+        return false;
+    }
     let count = descriptor::count(base, m, d);
     if count < 1518 {
         return false;

@@ -11,7 +11,8 @@ use Rattle.descriptor.specs.Descriptor.{nextEnabled, nextWord}
 use Rattle.packet_status.specs.PacketStatus.{withPacketStatus}
 use Rattle.registers.specs.declared.Registers.{Registers}
 use Rattle.sending.specs.declared.Sent.{Sent}
-use Rattle.sending.specs.Sending.{sendNumber, txRefused, wireAt, txAdvanced}
+use Rattle.outcomes.specs.Outcomes.{txRefused, txAdvanced}
+use Rattle.sending.specs.Sending.{sendNumber, wireAt}
 
 -- what a single send gives: its number, the registers, the memory and the output that it leaves, and the bytes put there
 pub record Sending : Type 0 where

@@ -42,7 +42,20 @@ module _ (b : Bench) (n first : ℕ) (sound : RingSound b n first) where
     unfolding deviceAfter memoryAfter
     delivers pass left =
         let held = held-deliver b n first sound (c .memory) v (length gs) f (i .held) left (passed-short _ f pass) in
-        rw add-one (record { fixed = i .fixed; place = refl; held = held; named = i .named })
+        let x = i .fixed in
+        rw add-one (record {
+          fixed = record {
+            base = x .base;
+            window = x .window;
+            filter = x .filter;
+            receiving = x .receiving;
+            polling = refl;
+            sending = x .sending;
+          };
+          place = refl;
+          held = held;
+          named = i .named;
+        })
 
     -- it keeps the invariant, and is delivered exactly if it passes and a grant is left
     pub record Came : Type 0 where

@@ -15,7 +15,7 @@ pub begin-holds : (b : Bench) (n first : ℕ) (st : Start b n first) → InvP b 
 unfolding granted packetStatus descAt
 begin-holds b n first st =
     record {
-      fixed = record { base = refl; window = refl; filter = refl; receiving = st .receiving; sending = st .sending };
+      fixed = record { base = refl; window = refl; filter = refl; receiving = st .receiving; polling = st .polling; sending = st .sending };
       place = st .place ∙ sym (follow-zero (b .device .base) (b .memory) first);
       held =
           record {

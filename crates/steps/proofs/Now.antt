@@ -1,6 +1,6 @@
 -- What the invariant says of the device, the memory and the three ways of a frame. Assumes nothing.
 use Prim.Native.Nat.{ℕ, suc, _+_, _≤_, _<_}
-use mathlib.Core.Path.{_≡_, sym, _∙_}
+use mathlib.Core.Path.{_≡_, sym, ap, _∙_}
 use mathlib.Core.Logic.{⊎-map, _≢_}
 use mathlib.Core.Bool.{true, false}
 use mathlib.Core.List.{List}
@@ -18,14 +18,18 @@ use Rattle.chain.specs.Buffer.{bytesFault, bufferFault}
 use Rattle.frame.proofs.Passed.{passed-short}
 use Rattle.frame.specs.Frame.{frameNumber}
 use Rattle.enet.specs.declared.Enet.{Enet}
-use Rattle.enet.specs.Device.{leaves, raised, withRx}
+use Rattle.enet.specs.Device.{leaves, raised, withRx, rxNotGranted}
+use Rattle.address.specs.Address.{polls}
+use Rattle.engine.specs.declared.Engine.{Engine}
 use Rattle.engine.specs.Engine.{withPlace}
-use Rattle.receiving.specs.Receiving.{rxRefused, rxAdvanced, receiveNumber, delivered}
+use Rattle.outcomes.specs.Outcomes.{rxRefused, rxAdvanced}
+use Rattle.receiving.specs.Receiving.{receiveNumber, delivered}
 use Rattle.registers.specs.Registers.{rxCurrDone, packetLost}
 use Rattle.chain.specs.Chain.{chainNumber}
 use Rattle.receiving.specs.Receive as receiving
 use Rattle.receiving.specs.Receive.{receiveAt}
 use Rattle.enet.specs.Frames.{ofReceived, receive}
+use Rattle.engine.proofs.Laws.{polling-looks-again}
 use Rattle.receiving.proofs.Laws.{frame-keeps}
 use Rattle.calls.specs.Calls.{Bench}
 use Rattle.steps.specs.Start.{inOrder}
@@ -40,7 +44,7 @@ use Rattle.steps.proofs.Invariant.{Inv}
 
 -- what the delivery after v others leaves
 unfoldable pub deviceAfter : Bench → ℕ → Enet → ℕ → Enet
-deviceAfter b first d v = withRx (raised d rxCurrDone) (withPlace (d .registers .rx) (inOrder b first (suc v)))
+deviceAfter b first d v = withRx (raised d rxCurrDone) (withPlace (d .registers .rx) (inOrder b first (suc v)) true)
 
 unfoldable pub memoryAfter : Bench → ℕ → List ℕ → ℕ → List ℕ → List ℕ
 memoryAfter b first m v f = storeWord (store m (bufAt b first v) f) (descAt b first v + 12) (length f)
@@ -81,6 +85,11 @@ module _ {b : Bench} {n first : ℕ} {sound : RingSound b n first} {d : Enet} {m
   next-now : (t : ℕ) → v ≤ t → t < v + n → next (d .base) m (turn t) ≡ turn (suc t)
   unfolding next nextWord
   next-now t l u = rw (word-now t 8 l u (omega arith)) (sym (follow-next base₀ m₀ t first))
+
+  -- its polling bit too
+  polled-now : (t : ℕ) → v ≤ t → t < v + n → polls (nextWord (d .base) m (turn t)) ≡ true
+  unfolding nextWord
+  polled-now t l u = rw (word-now t 8 l u (omega arith)) (sound₀ t .polled)
 
   count-now : (t : ℕ) → v ≤ t → t < v + n → count (d .base) m (turn t) ≡ count base₀ m₀ (turn t)
   unfolding count
@@ -135,11 +144,16 @@ module _ {b : Bench} {n first : ℕ} {sound : RingSound b n first} {d : Enet} {m
       receive-now f
       ∙ rw (lent-now, ne-eqb (brings b f) 0 ne, ne-eqb (brings b f) 0 ne, frame-keeps (b .device .registers .filter) (d .registers) f)
 
+  -- with polling enabled the engine looks again
+  looks-again : leaves 8 (rxNotGranted (raised d packetLost)) m ≡ leaves 8 (raised d packetLost) m
+  looks-again =
+      ap (λ (e : Engine). leaves 8 (withRx (raised d packetLost) e) m) (sym (polling-looks-again (d .registers .rx) (i .fixed .polling)))
+
   pub lost-now : (f : List ℕ) → brings b f ≡ 0 → v ≡ length gs → receive d m f ≡ leaves 8 (raised d packetLost) m
   unfolding receiveAt receiveNumber chainNumber rxRefused
   lost-now f pass used =
       let s = some-now in
-      receive-now f ∙ rw (lent-now, pass, inside-now v, granted-now v, i .held .spent v (omega arith) (omega arith))
+      receive-now f ∙ rw (lent-now, pass, inside-now v, granted-now v, i .held .spent v (omega arith) (omega arith)) looks-again
 
   pub taken-now : (f : List ℕ) → brings b f ≡ 0 → v < length gs → receive d m f ≡ leaves 0 (deviceAfter b first d v) (memoryAfter b first m v f)
   unfolding receiveAt receiveNumber chainNumber rxAdvanced next delivered withPacketStatus bufAt descAt deviceAfter memoryAfter
@@ -157,7 +171,8 @@ module _ {b : Bench} {n first : ℕ} {sound : RingSound b n first} {d : Enet} {m
         no-fault v (length f) (passed-short _ f pass),
         linked-now v (omega arith) (omega arith),
         next-now v (omega arith) (omega arith),
+        polled-now v (omega arith) (omega arith),
       )
       (λ j.
-      leaves 0 (withRx (raised d rxCurrDone) (withPlace (d .registers .rx) (turn (suc v))))
+      leaves 0 (withRx (raised d rxCurrDone) (withPlace (d .registers .rx) (turn (suc v)) true))
       (storeWord (store m (offset (i .fixed .base j) (start base₀ m₀ (turn v))) f) (offset (i .fixed .base j) (turn v) + 12) (length f)))

@@ -32,6 +32,7 @@ same-but-interrupts d isr ier = record {
   filter = refl;
   receiving = refl;
   place = refl;
+  polling = refl;
   sending = refl;
 }
 

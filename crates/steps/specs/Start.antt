@@ -1,4 +1,4 @@
--- 01, "Histories": where a list starts, and what the firmware may do in it. Assumes nothing.
+-- 01, "Histories", and 02, Wish 5: where a list starts, and what the firmware may do in it. Assumes nothing.
 use Prim.Native.Nat.{ℕ, suc, _+_, _≤_, _<_}
 use mathlib.Core.Path.{_≡_}
 use mathlib.Core.Logic.{_⊎_}
@@ -25,6 +25,8 @@ pub record Start (b : Bench) (number first : ℕ) : Type 0 where
   pub receiving : b .device .registers .rx .running ≡ true
   -- "with its place at the first descriptor"
   pub place : b .device .registers .rx .place ≡ first
+  -- 02, Wish 5: "Demand 3 is read with polling enabled for the starting place"
+  pub polling : b .device .registers .rx .polling ≡ true
   -- "sending does not run"
   pub sending : b .device .registers .tx .running ≡ false
   -- "every descriptor of the ring is returned for receiving"

@@ -20,7 +20,7 @@ abbrev pub flag : Bool → ℕ
 flag t = if t then 1 else 0
 
 abbrev pub engineNumbers : Engine → List ℕ
-engineNumbers e = e .start ∷ e .next ∷ flag (e .running) ∷ e .place ∷ []
+engineNumbers e = e .start ∷ e .next ∷ flag (e .running) ∷ e .place ∷ flag (e .polling) ∷ []
 
 -- number, block, bytes, events, then the window and the registers, then receiving, then sending
 abbrev pub replayedNumbers : Replayed → List ℕ

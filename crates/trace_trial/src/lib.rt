@@ -63,7 +63,7 @@ pub extern "C" fn trace_trial_write(
 }
 
 // What a replay answered.
-fn numbers_of(r: Replayed) -> [u64; 21]
+fn numbers_of(r: Replayed) -> [u64; 23]
     ensures { λ l. ⌜ l ≡ replayedNumbers r ⌝ }
 {
     let device = r.device;
@@ -89,10 +89,12 @@ fn numbers_of(r: Replayed) -> [u64; 21]
         rx.next as u64,
         flag(rx.running),
         rx.place as u64,
+        flag(rx.polling),
         tx.start as u64,
         tx.next as u64,
         flag(tx.running),
         tx.place as u64,
+        flag(tx.polling),
     ]
 }
 

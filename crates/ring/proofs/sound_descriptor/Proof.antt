@@ -1,4 +1,4 @@
-use Rattle.ring.proofs.Laws.{descriptor-outside, next-disabled, count-under-1518, start-misaligned, buffer-outside, by-own-regions}
+use Rattle.ring.proofs.Laws.{descriptor-outside, next-disabled, polling-disabled, count-under-1518, start-misaligned, buffer-outside, by-own-regions}
 use Rattle.ring.proofs.sound_descriptor.Statement.{statement}
 use Rattle.ring.proofs.sound_descriptor.Tie as tie
 
@@ -10,6 +10,9 @@ sound-descriptor-spec =
     (λ c. search descriptor-outside)
     (λ c κs. tt)
     (λ c. search next-disabled)
+    (λ c κs. tt)
+    (λ c κs. tt)
+    (λ c. search polling-disabled)
     (λ c κs. tt)
     (λ c. search count-under-1518)
     (λ c κs. tt)

@@ -8,4 +8,5 @@ led-to-spec =
     tie.close
     (tie.spec
     (λ c κs. search needs)
+    (λ c κs. search needs)
     (λ c. search place-led-to))

@@ -1,0 +1,14 @@
+// What a delivery writes.
+ghost use mathlib.Core.Path.{_≡_};
+ghost use Prim.Native.Nat.{_≤_};
+ghost use Rattle.receiving.specs.Receiving.{delivered};
+
+// Writes the frame and then the packet status word of the descriptor.
+pub(crate) fn deliver(base: u32, m: &mut [u8], place: u32, frame: &[u8])
+    requires { do ⌜ (← ⟦frame.len()⟧) ≤ 1518 ⌝ }
+    ensures { λ _. ⌜ now (m .exit) ≡ delivered base (now (m .entry)) place (now (frame .entry)) ⌝ }
+{
+    let start = descriptor::start(base, m, place);
+    memory::store(m, window::offset(base, start), frame);
+    packet_status::set_packet_status(base, m, place, frame.len() as u32);
+}
