@@ -17,7 +17,8 @@ use Rattle.fcs.specs.CheckSequence.{checkNumber, checkSequence, checkRight}
 use Rattle.frame.specs.Length.{lengthAllowed}
 use Rattle.filter.specs.Address.{accepts}
 use Rattle.frame.specs.Frame.{frameNumber}
-use Rattle.ring.specs.Ring.{soundDescriptor, regionsApart, apartFromRest, ringFrom, soundRing}
+use Rattle.ring_descriptors.specs.RingDescriptors.{soundDescriptor, regionsApart}
+use Rattle.ring.specs.Ring.{apartFromRest, ringFrom, soundRing}
 use Rattle.engine.specs.Engine.{notGranted}
 use Rattle.engine_write.specs.EngineWrite.{startWritten}
 use Rattle.outcomes.specs.Outcomes.{rxRefused, rxAdvanced}

@@ -15,7 +15,8 @@ use Rattle.memory.proofs.Stores.{Apart}
 use Rattle.window.specs.Window.{lent}
 use Rattle.address.specs.Address.{aligned, polls}
 use Rattle.descriptor.specs.Descriptor.{count, nextEnabled, start, nextWord, next}
-use Rattle.ring.specs.Ring.{soundDescriptor, regionsApart, apartFromRest, ringFrom, soundRing}
+use Rattle.ring_descriptors.specs.RingDescriptors.{soundDescriptor, regionsApart}
+use Rattle.ring.specs.Ring.{apartFromRest, ringFrom, soundRing}
 use Rattle.links.specs.Links.{follow, Clear, Closed}
 use Rattle.window.proofs.Laws.{in-window}
 use Rattle.address.proofs.Laws.{apart-is}

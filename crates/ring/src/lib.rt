@@ -1,53 +1,6 @@
 // The ring check: whether following the next words gives a sound ring of descriptors.
 ghost use mathlib.Core.Path.{_≡_};
-ghost use Rattle.ring.specs.Ring.{soundDescriptor, regionsApart, apartFromRest, ringFrom, soundRing};
-
-// A descriptor of a sound ring, by itself.
-fn sound_descriptor(base: u32, window: u32, m: &[u8], d: u32) -> bool
-    ensures { λ r. ⌜ r ≡ soundDescriptor base window (now (m .entry)) d ⌝ }
-{
-    if !window::in_window(base, window, d, 16) {
-        return false;
-    }
-    if !descriptor::next_enabled(base, m, d) {
-        return false;
-    }
-    if !address::polls(descriptor::next_word(base, m, d)) {
-        return false;
-    }
-    let count = descriptor::count(base, m, d);
-    if count < 1518 {
-        return false;
-    }
-    if !descriptor::start_aligned(base, m, d) {
-        return false;
-    }
-    let start = descriptor::start(base, m, d);
-    if !window::in_window(base, window, start, count) {
-        return false;
-    }
-    address::apart(start, count, d, 16)
-}
-
-// The regions of two descriptors share no byte.
-fn regions_apart(base: u32, m: &[u8], d: u32, e: u32) -> bool
-    ensures { λ r. ⌜ r ≡ regionsApart base (now (m .entry)) d e ⌝ }
-{
-    if !address::apart(d, 16, e, 16) {
-        return false;
-    }
-    let other = descriptor::start(base, m, e);
-    let other_count = descriptor::count(base, m, e);
-    if !address::apart(d, 16, other, other_count) {
-        return false;
-    }
-    let start = descriptor::start(base, m, d);
-    let count = descriptor::count(base, m, d);
-    if !address::apart(start, count, e, 16) {
-        return false;
-    }
-    address::apart(start, count, other, other_count)
-}
+ghost use Rattle.ring.specs.Ring.{apartFromRest, ringFrom, soundRing};
 
 // The regions of d and those of the descriptors left, from e on, share no byte.
 fn apart_from_rest(base: u32, m: &[u8], d: u32, left: u32, e: u32) -> bool
@@ -56,7 +9,7 @@ fn apart_from_rest(base: u32, m: &[u8], d: u32, left: u32, e: u32) -> bool
     if left == 0 {
         return true;
     }
-    if !regions_apart(base, m, d, e) {
+    if !ring_descriptors::regions_apart(base, m, d, e) {
         return false;
     }
     apart_from_rest(base, m, d, left - 1, descriptor::next(base, m, e))
@@ -69,7 +22,7 @@ fn ring_from(base: u32, window: u32, m: &[u8], first: u32, left: u32, d: u32) ->
     if left == 0 {
         return d == first;
     }
-    if !sound_descriptor(base, window, m, d) {
+    if !ring_descriptors::sound_descriptor(base, window, m, d) {
         return false;
     }
     let e = descriptor::next(base, m, d);

@@ -9,7 +9,7 @@ use Rattle.ring.proofs.apart_from_rest.Reads as apart-from-rest
 use Rattle.ring.proofs.apart_from_rest.Kinds as apart-from-rest-kinds
 use Rattle.ring.proofs.+apart_from_rest.Lts-apart_from_rest as apart-from-rest-lts
 use Rattle.descriptor.proofs.next.Reads as next-reads
-use Rattle.ring.proofs.regions_apart.Reads as regions-apart-reads
+use Rattle.ring_descriptors.proofs.regions_apart.Reads as regions-apart-reads
 use Rattle.ring.proofs.+apart_from_rest.{statement}
 use Rattle.ring.proofs.+apart_from_rest.Tie.{close}
 

@@ -10,7 +10,7 @@ use Rattle.ring.proofs.ring_from.Kinds as ring-from-kinds
 use Rattle.ring.proofs.+ring_from.Lts-ring_from as ring-from-lts
 use Rattle.descriptor.proofs.next.Reads as next-reads
 use Rattle.ring.proofs.apart_from_rest.Reads as apart-from-rest-reads
-use Rattle.ring.proofs.sound_descriptor.Reads as sound-descriptor-reads
+use Rattle.ring_descriptors.proofs.sound_descriptor.Reads as sound-descriptor-reads
 use Rattle.ring.proofs.+ring_from.{statement}
 use Rattle.ring.proofs.+ring_from.Tie.{close}
 
