@@ -21,8 +21,8 @@ module _ (e : Engine) where
 
   pub polling-looks-again : e .polling ≡ true → e ≡ notGranted e
   unfolding notGranted
-  polling-looks-again t = if-yes (e .polling) e e (stopped e) t refl
+  polling-looks-again t = if-yes (e .polling) e e _ t refl
 
   pub no-polling-stops : e .polling ≡ false → (s : Engine) → s ≡ stopped e → s ≡ notGranted e
   unfolding notGranted
-  no-polling-stops t s q = if-no (e .polling) s e (stopped e) t q
+  no-polling-stops t s q = if-no (e .polling) s _ (stopped e) t q

@@ -6,7 +6,7 @@ use Prim.Native.Nat.{ℕ, zero, suc, _-_, _≤_, _<_}
 use native.Mathlib.Omega.{arith}
 use borrow.Author.Tests.{le-leb, lt-leb}
 use lib.Dec.{eqb, leb}
-use Rattle.rules.proofs.Choices.{said-yes, said-no, and-yes, and-no, and-last, is-and, is-and-no, is-and-last}
+use Rattle.rules.proofs.Choices.{said-yes, said-no, and-yes, and-no, and-last, is-and, is-and-no}
 use Rattle.window.specs.Window.{lent}
 use Rattle.address.specs.Address.{aligned}
 use Rattle.descriptor.specs.Descriptor.{next}

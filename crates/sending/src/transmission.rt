@@ -1,5 +1,4 @@
 // What a send puts out and writes.
-ghost use mathlib.Core.Path.{_≡_};
 ghost use Rattle.sending.specs.Sending.{Transmitted};
 
 // Puts the bytes of the descriptor on the wire, says how many, and marks it returned.
