@@ -9,14 +9,14 @@
 #define BURSTS_A_TURN 8
 #define BURST_TURNS 201
 
-/* A ring of 64 granted descriptors that share one buffer behind them: the
- * window is too small for 64 buffers of 1,518 bytes. */
+/* A ring of 64 granted descriptors, with polling, that share one buffer behind
+ * them: the window is too small for 64 buffers of 1,518 bytes. */
 static void prepare_ring(size_t length)
 {
     for (uint32_t k = 0; k < PAIRS; k++) {
         store(memory + 16 * k, LINKED | (uint32_t)length);
         store(memory + 16 * k + 4, 16 * PAIRS);
-        store(memory + 16 * k + 8, 16 * ((k + 1) % PAIRS));
+        store(memory + 16 * k + 8, 16 * ((k + 1) % PAIRS) | POLLING);
         store(memory + 16 * k + 12, UINT32_C(1) << 16);
     }
 }

@@ -46,10 +46,12 @@ enum answer {
 #define STATUS 12
 #define COUNT UINT32_C(0x0FFF)
 #define NEXT_ENABLE UINT32_C(0x4000)
+#define NEXT_POLLING UINT32_C(1)
 #define VALID UINT32_C(0x00010000)
 
 struct engine {
     uint32_t place;
+    bool polling;      /* the bit of the word that led to the place, as read then */
     bool running;
 };
 
@@ -120,6 +122,21 @@ static uint32_t check_sequence(const uint8_t *bytes, size_t length)
 static uint32_t check_right(const uint8_t *frame, size_t length)
 {
     return length >= 4 && check_sequence(frame, length - 4) == load(frame + length - 4);
+}
+
+/* A word leads to the next place, that of a register or of a descriptor. */
+static void lead(struct engine *engine, uint32_t word)
+{
+    engine->place = word & ~UINT32_C(3);
+    engine->polling = word & NEXT_POLLING;
+}
+
+/* Number 8: with polling the engine looks again, without it stops. */
+static enum answer not_granted(struct engine *engine)
+{
+    if (!engine->polling)
+        engine->running = false;
+    return NOT_GRANTED;
 }
 
 static bool in_window(const struct enet *device, uint32_t address, uint32_t length)
@@ -207,7 +224,7 @@ static enum answer receive(struct enet *device, uint8_t *memory, size_t memory_l
     descriptor = memory + (device->rx.place - device->base);
     if (!(load(descriptor + STATUS) & VALID)) {
         device->isr |= PACKET_LOST;
-        return NOT_GRANTED;
+        return not_granted(&device->rx);
     }
     if (buffer_fault(device, descriptor, device->rx.place, (uint32_t)frame_length)) {
         device->rx.running = false;
@@ -217,7 +234,7 @@ static enum answer receive(struct enet *device, uint8_t *memory, size_t memory_l
     store(descriptor + STATUS, (uint32_t)frame_length);
     device->isr |= RX_CURR_DONE;
     if (load(descriptor + CONTROL) & NEXT_ENABLE) {
-        device->rx.place = load(descriptor + NEXT) & ~UINT32_C(3);
+        lead(&device->rx, load(descriptor + NEXT));
     } else {
         device->isr |= RX_DONE;
         device->rx.running = false;
@@ -245,7 +262,7 @@ static enum answer send(struct enet *device, uint8_t *memory, size_t memory_leng
     }
     descriptor = memory + (device->tx.place - device->base);
     if (!(load(descriptor + STATUS) & VALID))
-        return NOT_GRANTED;
+        return not_granted(&device->tx);
     count = load(descriptor + CONTROL) & COUNT;
     if (buffer_fault(device, descriptor, device->tx.place, count)) {
         device->tx.running = false;
@@ -265,7 +282,7 @@ static enum answer send(struct enet *device, uint8_t *memory, size_t memory_leng
     store(descriptor + STATUS, 0);
     device->isr |= TX_CURR_DONE;
     if (load(descriptor + CONTROL) & NEXT_ENABLE) {
-        device->tx.place = load(descriptor + NEXT) & ~UINT32_C(3);
+        lead(&device->tx, load(descriptor + NEXT));
     } else {
         device->isr |= TX_DONE;
         device->tx.running = false;
@@ -278,8 +295,7 @@ static enum answer send(struct enet *device, uint8_t *memory, size_t memory_leng
 static struct enet started(size_t window)
 {
     bool allowed = window >= 64 && window <= 65536 && window % 4 == 0;
-
-    return (struct enet){
+    struct enet device = {
         .window = allowed ? (uint32_t)window : 0,
         .isr = UINT32_C(0x00050001),
         .mah = UINT32_C(0x00000100),
@@ -287,6 +303,10 @@ static struct enet started(size_t window)
         .rx = {.running = true},
         .tx = {.running = true},
     };
+
+    lead(&device.rx, NEXT_POLLING);
+    lead(&device.tx, NEXT_POLLING);
+    return device;
 }
 
 static uint32_t receive_all(uint8_t *memory, size_t memory_length, const uint8_t *frame,

@@ -6,7 +6,7 @@
  *
  * `memory` is the window, at address 0, of at least 16 bytes. Each call makes a
  * new device over it: station 02-00-00-00-00-01, both engines started at the
- * descriptor at address 0.
+ * descriptor at address 0, with polling.
  */
 #ifndef MODEL_H
 #define MODEL_H

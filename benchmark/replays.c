@@ -17,7 +17,7 @@ static const size_t sizes[] = {64, 512, 1518};
 
 /* The most that a day has: with frames of 64 bytes. */
 #define MOST_ROUNDS (BYTES_A_DAY / 64)
-#define SETUP 4
+#define SETUP 6
 #define MOST_BYTES (9 * SETUP + (2 * FRAME_HEAD + 64) * MOST_ROUNDS)
 #define ROOM (BLOCK * (MOST_BYTES / DATA + 2))
 
@@ -42,7 +42,9 @@ static void make_day(size_t size)
     day.rounds = (uint32_t)(BYTES_A_DAY / size);
     at = put_register_write(at, 0x404, 0x100);
     at = put_register_write(at, 0x408, 2);
+    at = put_register_write(at, 0x1c, POLLING);
     at = put_register_write(at, 0x10, 5);
+    at = put_register_write(at, 0x3c, POLLING);
     at = put_register_write(at, 0x30, 5);
     for (uint32_t k = 0; k < day.rounds; k++)
         at = put_frame(put_grant(at, 0), frame, size);

@@ -30,7 +30,7 @@ void prepare(uint32_t control, uint32_t start)
     fill(output, sizeof output, 2);
     store(memory, control);
     store(memory + 4, start);
-    store(memory + 8, 0);
+    store(memory + 8, POLLING);
     store(memory + 12, 0);
 }
 

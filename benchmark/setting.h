@@ -18,6 +18,8 @@
 /* A descriptor at address 0, its buffer behind it. */
 #define BUFFER 16
 #define LINKED UINT32_C(0x4000)
+/* of a next word and of a next-descriptor register */
+#define POLLING UINT32_C(1)
 
 extern uint8_t memory[WINDOW];
 extern uint8_t output[OUTPUT];
@@ -27,7 +29,7 @@ void store(uint8_t *at, uint32_t word);
 void fill(uint8_t *bytes, size_t length, uint32_t seed);
 
 /* The same bytes in memory and output before each call, and in the memory a
- * ring of one descriptor. */
+ * ring of one descriptor, with polling. */
 void prepare(uint32_t control, uint32_t start);
 
 /* A frame of any length from 10 on, its check sequence right, for the station
