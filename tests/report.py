@@ -15,6 +15,8 @@ import tempfile
 import xml.etree.ElementTree as ElementTree
 import zlib
 
+import polling
+
 ROOT = pathlib.Path(__file__).resolve().parent.parent
 REPORT, DAY = ROOT / 'tools' / 'report', ROOT / 'examples' / 'day.txt'
 STATION, BROADCAST = bytes.fromhex('020000000001'), b'\xff' * 6
@@ -25,36 +27,37 @@ SVG = '{http://www.w3.org/2000/svg}'
 # ---- the sample day, by hand
 
 # answers to the grants and to the frames, in the script's order
-GRANTS = [0, 0, 0, 14, 13, 0, 0, 0, 0, 0, 0, 0, 0]
-FRAMES = [8, 0, 0, 6, 6, 5, 4, 0, 0, 0, 0, 0, 8, 0, 0, 6, 11]
+GRANTS = [0, 0, 0, 14, 13, 0, 0, 0, 0, 0, 0, 0, 0, 0, 0, 0]
+FRAMES = [8, 0, 0, 6, 6, 5, 4, 0, 0, 0, 0, 0, 8, 0, 0, 6, 8, 3, 0, 0, 8, 0, 11]
 # the burst's number, then the answer to each of its pairs, and what the picture shows of them
 BURST = [0, 0, 0, 16, 8]
 BURST_MARKS = ['delivered', 'delivered', 'refused', 'lost']
 # the ring's fill: three grants, three frames, four grants, four frames, one grant, one frame, two grants, two frames of
-# the burst, one grant, and one frame of the group
-FILL = [0, 1, 2, 3, 2, 1, 0, 1, 2, 3, 4, 3, 2, 1, 0, 1, 0, 1, 2, 1, 0, 1, 0]
+# the burst, one grant and one frame of the group, and three of one grant and one frame each where polling is off
+FILL = [0, 1, 2, 3, 2, 1, 0, 1, 2, 3, 4, 3, 2, 1, 0, 1, 0, 1, 2, 1, 0, 1, 0, 1, 0, 1, 0, 1, 0]
 # the broadcast has 14 + 77 + 4 bytes, each result 64; the sends have 64, 64 and 66 + 4
 TOTALS = [
-    'calls 113',
-    'grants made 11',
+    'calls 148',
+    'grants made 14',
     'grants refused 2',
     '13 1 descriptor not at a multiple of 4 or not all in the window',
     '14 1 descriptor already granted',
     'bursts made 1 4 pairs, 1 outside the store',
     'bursts refused 0',
-    'frames delivered 11 735 bytes',
-    'frames lost 3 192 bytes',
-    'frames refused 6',
+    'frames delivered 14 927 bytes',
+    'frames lost 5 320 bytes',
+    'frames refused 7',
+    '3 1 that engine is not running',
     '4 1 frame under 64 or over 1,518 bytes',
     '5 1 frame check sequence wrong',
     '6 3 address not for this station',
     "11 1 lent memory not of the window's length",
     'frames sent 3 198 bytes',
 ]
-# six frames are refused, and one pair is outside
-MARKS = {'grants': 11, 'delivered': 11, 'lost': 3, 'refused': 7, 'sent': 2}
+# seven frames are refused, and one pair is outside
+MARKS = {'grants': 14, 'delivered': 14, 'lost': 5, 'refused': 8, 'sent': 2}
 SHOWN = ['1042;41,7', '1043;0,185', '1045;41,700', '1044;38,25', '1046;40,05', '1047;39,9', '1048;42,125', '2017;37,6',
-         '3108;40,25', '5012;39,4']
+         '3108;40,25', '5012;39,4', '7015;38,1', '7016;36,8', '7017;37,45']
 # what the day says of the hash: the write of its mode and of its bit, the frames of the two groups, the mode set back
 HASHED = [
     'write 400 0002000c -> 0 done: MCR (MAC control): AFM=1, TE, RE; receive-all off, multicast by hash',
@@ -64,14 +67,37 @@ HASHED = [
     'show 20000020 -> 0 done: descriptor 3 of the ring holds 60 bytes, to 03-00-00-00-00-01, 88B5 "5012;39,4"',
     'write 400 0000000c -> 0 done: MCR (MAC control): TE, RE; receive-all off, all-multicast off',
 ]
+# what it says of polling: the engines at each start, and each frame or send that finds a descriptor not granted, or no engine
+# that runs
+POLLED = [
+    'receiving starts at 20000000, polling on',
+    'polling is on for this place, by RXNDAR: receiving looks again at the next frame',
+    'polling is on for this place, by the next word of descriptor 3 of the ring: receiving looks again at the next frame',
+    'polling is on for this place, by the next word of descriptor 2 of the ring: receiving looks again at the next frame',
+    'receiving stops',
+    'receiving starts at 20000030, polling off',
+    'polling is off for this place, by RXNDAR: receiving stops',
+    'receiving is stopped since line 150',
+    'receiving starts at 20000030, polling on',
+    'without polling: the next word of descriptor 1 of the ring',
+    'polling is off for this place, by the next word of descriptor 1 of the ring: receiving stops',
+    'receiving starts at 20000010, polling on',
+    'sending was not started yet',
+    'sending starts at 20002000, polling on',
+    'polling is on for this place, by TXNDAR: sending looks again at the next send',
+    'sending is stopped since line 211',
+    'sending is stopped since line 211',
+    'sending starts at 20002020, polling off',
+    'polling is off for this place, by TXNDAR: sending stops',
+    'sending is stopped since line 223',
+]
 
 # ---- short scripts: each line with its answer, and what the report has to say of it
 
 RESULT = '02000000000102000000001188b5' + b'1042;41,7\n'.hex() + '00' * 36
-FIRST, SECOND = '00460000400000001000000000000100', '00460000400000000000000000000000'
+FIRST, SECOND = '00460000400000001100000000000100', '00460000400000000100000000000000'
+# a part of a day, before which nothing is known; in an order in which a bench could answer so
 LINES = [
-    ('new 100 64', 'new 0', '0 done: a window of 64 bytes from 00000100 on, all zero'),
-    ('new 100 60', 'new 1', '1 refused: window not allowed; the reset state, no window'),
     ('lend 60', 'lend', 'lent from now on: 60 bytes'),
     ('read 8', 'read 0 00008020', 'ISR (interrupt status) is 00008020: RX_CURR_DONE, PACKET_LOST'),
     ('read 8', 'read 0 92cf82ef', ': TX_CURR_DONE, MAC-802.3_INT, TX_MERR_INT, TX_DONE, TX_NEXT, TX_TO, TX_ENTRY, TX_FULL, '
@@ -83,13 +109,10 @@ LINES = [
     ('read 40c', 'read 0 ffffffff', 'MCHA (multicast hash high) is ffffffff: all bits set'),
     ('read 410', 'read 0 80000009', 'MCLA (multicast hash low) is 80000009: bits 31, 3, 0 set'),
     ('read c', 'read 2 00000000', '2 refused: register not modelled'),
+    ('read 1c', 'read 0 20000001', 'RXNDAR (receive next descriptor) is 20000001: address 20000000, polling on'),
+    ('read 3c', 'read 0 20000010', 'TXNDAR (send next descriptor) is 20000010: address 20000010, polling off'),
     ('write 8 20', 'write 0', 'ISR (interrupt status): clears PACKET_LOST'),
     ('write 4 80000000', 'write 0', 'IER (interrupt enable): enables TX_CURR_DONE'),
-    ('write 10 5', 'write 0', 'RXSTR (receive start): START_FETCH, DMA_EN; receiving runs'),
-    ('write 10 4', 'write 0', 'START_FETCH; receiving stops'),
-    ('write 30 1', 'write 0', 'TXSTR (send start): DMA_EN; sending is not started'),
-    ('write 1c 103', 'write 0', 'RXNDAR (receive next descriptor): address 00000100'),
-    ('write 3c 100', 'write 15', '15 refused: next-descriptor register written while its engine runs'),
     ('write 400 800a0004', 'write 0', 'MCR (MAC control): RA, AFM=5, RE; receive-all on, all-multicast on'),
     ('write 400 00020000', 'write 0', 'AFM=1; receive-all off, multicast by hash'),
     *((f'write 400 {mode << 17:x}', 'write 0', f'AFM={mode}; receive-all off, all-multicast off') for mode in (2, 3, 4, 6, 7)),
@@ -102,30 +125,43 @@ LINES = [
     ('grant 100', 'grant 14', '14 refused: descriptor already granted'),
     (f'frame {RESULT}00000000', 'frame 0', 'frame (64 bytes, to 02-00-00-00-00-01, 88B5 "1042;41,7") -> 0 delivered'),
     (f'frame {RESULT}00000000', 'frame 8', '8 lost: descriptor not granted; PACKET_LOST is set'),
-    (f'frame {RESULT}00000000', 'frame 3', '3 refused: that engine is not running'),
     ('frame -', 'frame 4', 'frame (0 bytes) -> 4 refused: frame under 64 or over 1,518 bytes'),
     ('frame 00', 'frame 5', 'frame (1 byte) -> 5 refused: frame check sequence wrong'),
     ('frame 0000', 'frame 6', '6 refused: address not for this station'),
     ('frame 0000', 'frame 7', '7 refused: chain fault; that engine stops'),
     ('frame 0000', 'frame 11', "11 refused: lent memory not of the window's length"),
+    (f'frame {RESULT}00000000', 'frame 3', '3 refused: that engine is not running'),
+    ('write 1c 103', 'write 0', 'RXNDAR (receive next descriptor): address 00000100, polling on'),
+    ('write 3c 100', 'write 15', '15 refused: next-descriptor register written while its engine runs'),
     ('send 1518', f'send 0 {RESULT}00000000', '0 done: sent 64 bytes, to 02-00-00-00-00-01, 88B5 "1042;41,7"'),
     ('send 1517', 'send 9 -', '9 refused: output shorter than 1,518 bytes'),
     ('send 1518', 'send 8 -', '8 refused: descriptor not granted'),
-    ('send 1518', 'send 12 -', '12 refused: send length under 14 or over 1,514; sending stops'),
     ('run 4097 0', 'run 10 0 0 -', '0 steps, 0 frames sent, 0 bytes; last answer 10 refused: step allowance over 4,096'),
     ('run 1 1518', f'run 0 1 64 {RESULT}00000000', '1 step, 1 frame sent, 64 bytes; last answer 0 done'),
     ('run 2 1518', f'run 9 2 64 {RESULT}00000000', '2 steps, 1 frame sent, 64 bytes; last answer 9 refused'),
+    ('send 1518', 'send 12 -', '12 refused: send length under 14 or over 1,514; sending stops'),
+    ('write 10 5', 'write 0', 'RXSTR (receive start): START_FETCH, DMA_EN'),
+    ('write 10 4', 'write 0', 'RXSTR (receive start): START_FETCH'),
+    ('write 30 1', 'write 0', 'TXSTR (send start): DMA_EN'),
     ('show 100', f'show 0 {RESULT}', 'descriptor at 00000100 holds 60 bytes, to 02-00-00-00-00-01, 88B5 "1042;41,7"'),
     ('show 100', 'show 13 -', '13 refused: descriptor not at a multiple of 4 or not all in the window, or no frame to show'),
     ('ring 2 100', 'ring no', 'no: not a sound ring of 2 descriptors'),
-    (f'poke 0 {FIRST}', 'poke ok', 'a descriptor, count 1536, start 00000040, next 00000010, granted'),
+    (f'poke 0 {FIRST}', 'poke ok', 'a descriptor, count 1536, start 00000040, next 00000010 with polling, granted'),
+    (f'poke 0 {FIRST[:16]}12000000{FIRST[24:]}', 'poke ok', 'start 00000040, next 00000010 without polling, granted'),
+    (f'poke 0 0006{FIRST[4:]}', 'poke ok', 'a descriptor, count 1536, start 00000040, no next, granted'),
     ('poke c 00000100', 'poke ok', 'packet status of the descriptor at 00000000, granted'),
+    ('poke 8 21000000', 'poke ok', 'next word of the descriptor at 00000000, 00000020 with polling'),
+    ('poke 8 20000000', 'poke ok', 'next word of the descriptor at 00000000, 00000020 without polling'),
     ('poke 0 00', 'poke outside', 'outside the window: nothing is written'),
     ('peek 0 3', 'peek 343100', '-> "41"'),
     ('peek 0 2', 'peek ff00', '-> ff00'),
     ('peek 0 2', 'peek outside', '-> outside the window'),
     ('check', 'check cbf43926', "cbf43926: CRC-32 of the window's bytes"),
-    ('state', 'state 1 00000010 0 00000000', 'receiving runs, place 00000010; sending is stopped, place 00000000'),
+    ('state', 'state 0 00000100 0 00000000', 'receiving is stopped, place 00000100; sending is stopped, place 00000000'),
+    ('write 10 5', 'write 0', 'START_FETCH, DMA_EN'),
+    ('state', 'state 1 00000100 0 00000000', 'receiving runs, place 00000100, polling on; sending is stopped, place 00000000'),
+    ('new 100 64', 'new 0', '0 done: a window of 64 bytes from 00000100 on, all zero'),
+    ('new 100 60', 'new 1', '1 refused: window not allowed; the reset state, no window'),
 ]
 
 # ---- bursts: a script with its answers, and all that the report has to say of it before the totals
@@ -209,6 +245,8 @@ FAULTS = [
     ('a pair inside not received', 'burst 2 00 0 1 1 0\n', 'burst 0 4 16\n',
      'pair 2: 16, yet the pair does not pass the end of the store'),
     ('no text', 'line\n', b'\xff\x00\n', 'does not answer "line"'),
+    ('more steps than allowed', 'run 2 1518\n', 'run 3 3 0 -\n', '3 steps, yet it may make no more than 2'),
+    ('more steps than there can be', 'run 9999 1518\n', 'run 3 4097 0 -\n', '4097 steps, yet it may make no more than 4096'),
 ]
 
 
@@ -236,11 +274,9 @@ class Tests:
         script, output, _ = (''.join(f'{part}\n' for part in column) for column in zip(*LINES))
         status, text = self.report(script, output, '--svg', self.folder / 'lines.svg')
         self.expect('all lines', status == 0, text)
-        # a long answer stands on a line of its own
-        calls, _ = re.sub(r'\n +->', ' ->', text).split('\nWhat the day comes to\n')
-        told = dict(re.findall(r'^ *(\d+)  (.*)', calls, re.MULTILINE))
+        told = calls(text)
         for at, (line, answer, wanted) in enumerate(LINES, 1):
-            self.expect(f'{line}, {answer}', wanted in told.get(str(at), ''), told.get(str(at)))
+            self.expect(f'{line}, {answer}', wanted in told.get(at, [''])[0], told.get(at))
         for wanted in ['grants made 1', 'frames delivered 1 64 bytes', 'frames lost 1 64 bytes', 'frames refused 6',
                        'frames sent 3 192 bytes']:
             self.expect(f'all lines: {wanted}', wanted in rows(text), text)
@@ -252,6 +288,21 @@ class Tests:
         grants = [line.split(' -> ')[1] for line in text.splitlines() if 'grant ' in line]
         self.expect('the ring', status == 0 and grants == ['0 done: descriptor 2 of the ring handed to the DMA',
                                                            '0 done: descriptor at 00000000 handed to the DMA'], text)
+
+    def polling(self):
+        """What becomes of the engines is told under each call, and why; where it is not known, nothing is."""
+        for name, lines in polling.DAYS.items():
+            script, output = (''.join(f'{line[part]}\n' for line in lines) for part in (0, 1))
+            status, text = self.report(script, output)
+            told = calls(text)
+            self.expect(name, status == 0 and len(told) == len(lines), text)
+            for at, (line, answer, *wanted) in enumerate(lines, 1):
+                given = [row for row in told.get(at, [''])[1:] if not row.startswith('pair ')]
+                self.expect(f'{name}, line {at}: {line[:40]}, {answer[:40]}', given == wanted, given)
+        for line, answer, known in polling.BETWEEN:
+            _, text = self.report(*polling.around(line, answer))
+            given = calls(text).get(5, [''])[1:]
+            self.expect(f'behind {line}, {answer}', given == [polling.looks_again('RXNDAR')] * known, text)
 
     def headings(self):
         """Comments are headings, whatever they hold; those with calls are numbered."""
@@ -267,9 +318,9 @@ class Tests:
         script, output = (''.join(f'{line[part]}\n' for line in BURSTS) for part in (0, 1))
         picture = self.folder / 'bursts.svg'
         status, text = self.report(script, output, '--svg', picture)
-        calls, sums = re.sub(r'\n +->', ' ->', text).split('\nWhat the day comes to\n')
+        said, sums = re.sub(r'\n +->', ' ->', text).split('\nWhat the day comes to\n')
         wanted = [told for line in BURSTS for told in line[2]]
-        self.expect('bursts', status == 0 and [row for row in rows(calls) if row] == wanted, text)
+        self.expect('bursts', status == 0 and [row for row in rows(said) if row] == wanted, text)
         for wanted in BURST_TOTALS:
             self.expect(f'bursts: {wanted}', wanted in rows(sums), text)
         root = ElementTree.parse(picture).getroot()
@@ -289,8 +340,8 @@ class Tests:
         script, output, wanted = '', '', []
         for control, to, told in TO:
             data = to + RESULT[12:] + '00000000'
-            script += 'write 400 20000\n' + ('new 0 64\n' if control == 'new' else f'write 400 {control}\n')
-            output += 'write 0\n' + ('new 0\n' if control == 'new' else 'write 0\n')
+            script += 'write 400 20000\n' + ('new 0 64\n' if control == 'new' else f'write 400 {control}\n') + 'write 10 5\n'
+            output += 'write 0\n' + ('new 0\n' if control == 'new' else 'write 0\n') + 'write 0\n'
             script += f'frame {data}\nburst 1 {data} 0 64\nshow 0\n'
             output += f'frame 6\nburst 0 6\nshow 0 {data[:-8]}\n'
             # what is shown was taken before
@@ -300,7 +351,7 @@ class Tests:
         self.expect('bits of the hash', status == 0 and given == wanted, text)
 
     def faults(self):
-        for name, script, output, wanted in FAULTS:
+        for name, script, output, wanted in FAULTS + polling.FAULTS:
             status, text = self.report(script, output, '--svg', self.folder / 'fault.svg')
             self.expect(name, status == 1 and wanted in text and 'not whole' in text, text)
         status, text = self.report('line\n', 'line 0\n', '--svg', self.folder / 'no' / 'such.svg')
@@ -312,7 +363,7 @@ class Tests:
         script = DAY.read_text()
         frames = [bytes.fromhex(line.split()[1]) for line in script.splitlines() if line.startswith('frame ')]
         self.expect("the day's frames are what they are meant to be",
-                    [refusal(frame) for frame in frames] == [0 if number in (8, 11) else number for number in FRAMES])
+                    [refusal(frame) for frame in frames] == [0 if number in (3, 8, 11) else number for number in FRAMES])
         pairs = [found(*line.split()[2:]) for line in script.splitlines() if line.startswith('burst ')]
         self.expect("the burst's frames are what they are meant to be",
                     pairs == [[0 if number == 8 else number for number in BURST[1:]]], pairs)
@@ -331,6 +382,8 @@ class Tests:
         told = [re.sub(r'^\d+ ', '', row) for row in rows(re.sub(r'\n +->', ' ->', text))]
         at = told.index(HASHED[0]) if HASHED[0] in told else 0
         self.expect('the hash of the day', told[at:at + len(HASHED)] == HASHED, text)
+        given = [row for lines in calls(text).values() for row in lines[1:] if not row.startswith(('pair ', 'sent '))]
+        self.expect('polling on the day', given == POLLED, given)
         self.expect('results shown', re.findall(r'descriptor \d of the ring holds 60 bytes, .*"(.*)"', text) == SHOWN, text)
         self.picture(ElementTree.parse(picture).getroot())
 
@@ -341,6 +394,8 @@ class Tests:
             self.expect(f'marks in the picture: {kind}', given == wanted, given)
         given = [[sign.kind for sign in box] for box in boxes(root)]
         self.expect('the burst in the picture', given == [BURST_MARKS], given)
+        given = [sign.title.split('; ')[-1] for sign in signs(root) if sign.kind == 'lost']
+        self.expect('polling in the picture', given == [words for words in POLLED if re.match('polling .*receiving', words)], given)
         self.expect('fill in the picture', fill(root, max(FILL)) == FILL, fill(root, max(FILL)))
 
 
@@ -409,11 +464,20 @@ def rows(text):
     return [' '.join(line.split()) for line in text.splitlines()]
 
 
+def calls(text):
+    """The calls of a report by their lines in the script, each with the rows under it. A long answer stands on a line of its
+    own in the report, and not here."""
+    told, _ = re.sub(r'\n +->', ' ->', text).split('\nWhat the day comes to\n')
+    found = re.findall(r'^ {0,4}(\d+)  (.*(?:\n {10,}.*)*)', told, re.MULTILINE)
+    return {int(at): rows(lines) for at, lines in found}
+
+
 def main(program):
     with tempfile.TemporaryDirectory() as folder:
         tests = Tests(folder)
         tests.lines()
         tests.ring()
+        tests.polling()
         tests.headings()
         tests.bursts()
         tests.hashes()

@@ -64,9 +64,11 @@ class Call:
 
 @dataclasses.dataclass
 class Fault:
-    """What keeps a day from being told whole. After a last one nothing more is paired."""
+    """What keeps a day from being told whole. After a last one nothing more is paired; one that changed nothing was a line
+    that the console did not take."""
     words: str
     last: bool = False
+    changed: bool = True
 
 
 def printable(text):
@@ -124,7 +126,7 @@ def values(name, forms, text):
 def paired(line, answer):
     """A line and its answer as a call, or what is wrong with them."""
     if answer == f'error {line.at}':
-        return Fault(f'line {line.at}: the console did not take {quoted(line.text)}')
+        return Fault(f'line {line.at}: the console did not take {quoted(line.text)}', changed=False)
     name = line.text.split(' ')[0]
     asked, answered = FORMS.get(name, ([], []))
     arguments = values(name, asked, line.text) if name in FORMS else None

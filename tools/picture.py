@@ -240,7 +240,8 @@ class Picture:
             if column.times > 1:
                 self.drawing.text(x, y - 7.5, f'\u00d7{column.times}', 'middle', font_size=10, fill=ROWS[column.kind])
             number = str(column.number) if self.column_width >= NUMBER_LEAST else ''
-            self.drawing.mark(column.kind, x, y, number, f'line {column.at}: {column.asked} -> {column.answered}')
+            title = '; '.join([f'line {column.at}: {column.asked} -> {column.answered}', *column.more])
+            self.drawing.mark(column.kind, x, y, number, title)
 
 
 def svg(day):

@@ -2,6 +2,7 @@
 import dataclasses
 import zlib
 
+import engines
 import pairing
 import wording
 from pairing import Fault
@@ -10,8 +11,8 @@ from wording import count, message
 # calls whose answer begins with a numbered result
 NUMBERED = {name for name, (_, answer) in pairing.FORMS.items() if answer[:1] == [pairing.NUMBER]}
 
-# a burst has no more pairs; an answer before the call, which a refused burst leaves
-PAIRS_MOST, UNANSWERED = 64, 99
+# a burst has no more pairs, a step run no more steps; an answer before the call, which a refused burst leaves
+PAIRS_MOST, STEPS_MOST, UNANSWERED = 64, 4096, 99
 
 
 @dataclasses.dataclass
@@ -101,6 +102,8 @@ def odd(call):
         return f'{call.answer[0]} is no numbered result'
     if call.name == 'run' and call.answer[2] != len(call.answer[3]):
         return f'{count(call.answer[2], "byte")} promised, {len(call.answer[3])} written'
+    if call.name == 'run' and call.answer[1] > min(call.arguments[0], STEPS_MOST):
+        return f'{count(call.answer[1], "step")}, yet it may make no more than {min(call.arguments[0], STEPS_MOST)}'
     if call.name == 'burst':
         return odd_burst(*call.arguments, *call.answer)
     if call.name in NUMBERED and call.answer[0] == 16:
@@ -113,6 +116,7 @@ class Day:
 
     def __init__(self, script, output):
         self.totals = Totals()
+        self.engines = engines.Engines(self.the_descriptor)
         self.forget()
         self.entries = [self.told(entry) for entry in pairing.entries(script, output)]
         self.calls = [entry for entry in self.entries if isinstance(entry, Told)]
@@ -120,20 +124,28 @@ class Day:
 
     def forget(self):
         """A new bench has no ring yet, and MAC control is 0."""
-        # bytes that the firmware wrote, by address
-        self.written = {}
         # addresses: those of the ring last found sound, and those written as descriptors
         self.ring, self.descriptors = [], set()
         self.fill = 0
         self.control = 0
 
     def told(self, entry):
+        if isinstance(entry, Fault) and entry.changed:
+            self.engines.forget()
         if not isinstance(entry, pairing.Call):
             return entry
-        if odd(entry):
-            return Fault(f'line {entry.line.at}, answer to {pairing.quoted(entry.line.text)}: {odd(entry)}')
+        wrong, followed = odd(entry), []
+        try:
+            followed = [] if wrong else self.engines.follow(entry)
+        except engines.Contradiction as contradiction:
+            wrong = str(contradiction)
+        if wrong:
+            self.engines.forget()
+            return Fault(f'line {entry.line.at}, answer to {pairing.quoted(entry.line.text)}: {wrong}')
         told = Told(entry.line.at, entry.line.text)
         getattr(self, f'tell_{entry.name}')(told, *entry.arguments, *entry.answer)
+        for part, words in zip(told.parts or [told], followed):
+            part.more += [words] if words else []
         told.fill = self.fill
         self.totals.calls += 1
         return told
@@ -145,27 +157,25 @@ class Day:
             return f'descriptor {self.ring.index(address) + 1} of the ring'
         return f'descriptor at {address:08x}'
 
-    def ring_from(self, first, number):
-        """The addresses of a ring, by the next words that the firmware wrote, as far as they are distinct."""
-        addresses, following = [], first
-        while len(addresses) < number and following not in addresses:
-            addresses.append(following)
-            word = bytes(self.written.get(following + 8 + k, 0) for k in range(4))
-            following = wording.address(wording.word(word, 0))
-        return addresses
+    def the_descriptor(self, address):
+        return f'{"" if address in self.ring else "the "}{self.descriptor(address)}'
 
     def meaning(self, address, data):
         """What bytes are that the firmware writes."""
-        if len(data) == 4 and address - 12 in self.descriptors:
-            return f'packet status of the {self.descriptor(address - 12)}, {wording.owner(wording.word(data, 0))}'
+        if len(data) == 4 and address - wording.STATUS_WORD in self.descriptors:
+            at = self.the_descriptor(address - wording.STATUS_WORD)
+            return f'packet status of {at}, {wording.owner(wording.word(data, 0))}'
+        if len(data) == 4 and address - wording.NEXT_WORD in self.descriptors:
+            at = self.the_descriptor(address - wording.NEXT_WORD)
+            return f'next word of {at}, {wording.leads(wording.word(data, 0))}'
         if len(data) == 16:
             self.descriptors.add(address)
             return f'a descriptor, {wording.descriptor(data)}'
         return message(data, 0)
 
-    def engine(self, name, runs, place):
+    def engine(self, engine, runs, place):
         at = f'{place:08x}' + (f' ({self.descriptor(place)})' if place in self.ring else '')
-        return f'{name} {"runs" if runs else "is stopped"}, place {at}'
+        return f'{engine.name} {"runs" if runs else "is stopped"}, place {at}{engine.polled()}'
 
     # ---- calls
 
@@ -242,8 +252,7 @@ class Day:
         self.sent(told, 0 if number else 1, data)
 
     def tell_run(self, told, allowance, room, number, steps, length, data):
-        # the last step is the one that did not send
-        frames = steps - 1 if number and steps else steps
+        frames = engines.steps_sent(number, steps)
         told.answered = (f'{count(steps, "step")}, {count(frames, "frame")} sent, {count(length, "byte")}; '
                          f'last answer {wording.answer(number)}')
         told.more = [f'sent {message(frame, 4)}' for frame in frames_in(data, frames)]
@@ -264,7 +273,7 @@ class Day:
         if verdict == 'no':
             told.answered = f'no: not a sound ring of {count(number, "descriptor")}'
             return
-        self.ring = self.ring_from(first, number)
+        self.ring = self.engines.memory.chain(first, number)
         told.answered = f'yes: a sound ring of {count(number, "descriptor")}, the first at {first:08x}'
 
     def tell_poke(self, told, address, data, verdict):
@@ -272,7 +281,6 @@ class Day:
         if verdict == 'outside':
             told.answered = 'outside the window: nothing is written'
             return
-        self.written.update((address + k, byte) for k, byte in enumerate(data))
         told.answered = f'ok: {self.meaning(address, data)}'
 
     def tell_peek(self, told, address, length, verdict):
@@ -285,5 +293,5 @@ class Day:
         told.answered = f"{value:08x}: CRC-32 of the window's bytes"
 
     def tell_state(self, told, receives, receive_place, sends, send_place):
-        engines = [('receiving', receives, receive_place), ('sending', sends, send_place)]
-        told.answered = '; '.join(self.engine(*engine) for engine in engines)
+        told.answered = (f'{self.engine(self.engines.receiving, receives, receive_place)}; '
+                         f'{self.engine(self.engines.sending, sends, send_place)}')

@@ -25,7 +25,7 @@ NUMBERS = [
 ]
 WHOLE_BURST = 'more than 64 pairs, or an answer list of another length'
 
-# what a refusal changes, where it changes anything; 8 does so on receive only
+# what a refusal changes, where it changes anything; what 8 does is in tell_frame, and in engines.py
 LEAVES = {
     1: 'the reset state, no window',
     7: 'that engine stops',
@@ -73,6 +73,10 @@ MULTICAST_HASH = 0b001
 MODES = {MULTICAST_HASH: 'multicast by hash', 0b101: 'all-multicast on'}
 
 DMA_EN, START_FETCH, NEXT_ENABLE, VALID = 1 << 0, 1 << 2, 1 << 14, 1 << 16
+# next-polling enable, of a next-descriptor register and of a descriptor's next word
+NPOL_EN = 1 << 0
+# words of a descriptor, by their first byte
+NEXT_WORD, STATUS_WORD = 8, 12
 BROADCAST = b'\xff' * 6
 LONGEST_TEXT = 52
 
@@ -80,6 +84,10 @@ LONGEST_TEXT = 52
 def count(n, noun):
     """1 frame, 2 frames."""
     return f'{n} {noun}' if n == 1 else f'{n} {noun}s'
+
+
+def on(flag):
+    return 'on' if flag else 'off'
 
 
 def answer(number, done=''):
@@ -126,7 +134,7 @@ def filter_mode(control):
 
 def address_filter(control):
     """What the address rule takes from MAC control."""
-    return f'receive-all {"on" if receive_all(control) else "off"}, {MODES.get(filter_mode(control), "all-multicast off")}'
+    return f'receive-all {on(receive_all(control))}, {MODES.get(filter_mode(control), "all-multicast off")}'
 
 
 def hashes(control, destination):
@@ -162,7 +170,7 @@ def holds(offset, value):
     if short == 'MAH':
         return f'the station address ends {hyphens((value & 0xffff).to_bytes(2, "little"))}'
     if short in ('RXNDAR', 'TXNDAR'):
-        return f'address {address(value):08x}'
+        return f'address {address(value):08x}, polling {on(polls(value))}'
     if short in ('MCHA', 'MCLA'):
         return bits(value)
     return 'not known to this report'
@@ -175,16 +183,7 @@ def takes(offset, value):
         return f'clears {fields(short, value)}' if value else 'clears nothing'
     if short == 'IER':
         return f'enables {fields(short, value)}' if value else 'enables nothing'
-    if short in ('RXSTR', 'TXSTR'):
-        return f'{fields(short, value)}; {started("receiving" if short == "RXSTR" else "sending", value)}'
     return holds(offset, value)
-
-
-def started(engine, value):
-    """What a start write does to its engine."""
-    if not value & DMA_EN:
-        return f'{engine} stops'
-    return f'{engine} runs' if value & START_FETCH else f'{engine} is not started'
 
 
 # ---- bytes
@@ -221,6 +220,11 @@ def address(value):
     return value & 0xfffffffc
 
 
+def polls(value):
+    """Whether a next-descriptor register or a next word leads to its place with polling."""
+    return value & NPOL_EN == NPOL_EN
+
+
 def word(data, at):
     return int.from_bytes(data[at:at + 4], 'little')
 
@@ -230,8 +234,13 @@ def owner(status):
     return 'granted' if status & VALID else 'returned'
 
 
+def leads(following):
+    """Where a next word leads."""
+    return f'{address(following):08x} {"with" if polls(following) else "without"} polling'
+
+
 def descriptor(data):
     """Sixteen bytes as a descriptor."""
-    control, start, following, status = (word(data, at) for at in (0, 4, 8, 12))
-    linked = f'next {address(following):08x}' if control & NEXT_ENABLE else 'no next'
+    control, start, following, status = (word(data, at) for at in (0, 4, NEXT_WORD, STATUS_WORD))
+    linked = f'next {leads(following)}' if control & NEXT_ENABLE else 'no next'
     return f'count {control & 0xfff}, start {start:08x}, {linked}, {owner(status)}'

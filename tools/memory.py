@@ -1,0 +1,39 @@
+"""The bytes of the window, as far as the calls of a script tell them."""
+import wording
+
+
+class Memory:
+    """Bytes by address, None for one that is not known. A new bench's are all zero; without a bench nothing is known."""
+
+    def __init__(self, base=0, length=1 << 32, rest=None):
+        self.base, self.end, self.rest = base, base + length, rest
+        self.bytes = {}
+
+    def put(self, address, data):
+        self.bytes.update(enumerate(data, address))
+
+    def lose(self, address, length):
+        self.put(address, [None] * length)
+
+    def lose_all(self):
+        self.bytes, self.rest = {}, None
+
+    def word(self, address):
+        """The word at an address, or None where it is not known or not all in the window."""
+        data = [self.bytes.get(address + k, self.rest) for k in range(4)]
+        if None in data or address < self.base or self.end < address + 4:
+            return None
+        return wording.word(bytes(data), 0)
+
+    def descriptor(self, place):
+        """Control, start address and next word of the descriptor at a place, which may not be known itself."""
+        return [None if place is None else self.word(place + k) for k in (0, 4, 8)]
+
+    def chain(self, first, number):
+        """The addresses of so many descriptors in a row, by their next words, as far as these are known and lead on."""
+        addresses, place = [], first
+        while len(addresses) < number and place is not None and place not in addresses:
+            addresses.append(place)
+            following = self.word(place + wording.NEXT_WORD)
+            place = None if following is None else wording.address(following)
+        return addresses
