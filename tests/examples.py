@@ -13,7 +13,7 @@ PAPER = pathlib.Path(__file__).resolve().parent.parent / 'docs' / 'CONSOLE.md'
 # a script, the words between, and what it writes; both are set in by four blanks
 EXAMPLE = re.compile(r'((?:    .*\n|\n)+)It writes.*:\n((?:    .*\n|\n)+)')
 # how many there are, so that none is passed over for its form
-EXAMPLES = 2
+EXAMPLES = 3
 
 
 def main(program):
