@@ -42,7 +42,7 @@ void trace_trial_replay(const uint8_t *trace, size_t trace_length, uint8_t *room
                         size_t room_length, uint8_t *memory, size_t memory_length,
                         uint8_t *output, size_t output_length, uint32_t *answers,
                         size_t answers_length, uint64_t *found, size_t found_length);
-#define REPLAY_FOUND 21
+#define REPLAY_FOUND 23
 
 /* trace_model.c, by its compiler */
 extern const struct tracer trace_gcc, trace_clang;

@@ -7,12 +7,16 @@ use Rattle.enet.specs.declared.Enet.{Enet}
 use Rattle.enet.specs.declared.Answered.{Answered}
 use Rattle.enet.specs.Device.{Outcome, outcome, new}
 use Rattle.enet.specs.Access.{write}
-use Rattle.timing.specs.Timing.{bench, passed, received, rounds}
+use Rattle.timing.specs.Timing.{waiting, bench, passed, received, rounds}
 
-pub bench-is : (w : ℕ) (n a b c d : Answered) → n ≡ new 0 w → a ≡ write (n .device) 0x404 0x100 → b ≡ write (a .device) 0x408 2
-    → c ≡ write (b .device) 0x10 5 → d ≡ write (c .device) 0x30 5 → d .device ≡ bench w
+pub waiting-is : (w : ℕ) (n a b c d : Answered) → n ≡ new 0 w → a ≡ write (n .device) 0x404 0x100 → b ≡ write (a .device) 0x408 2
+    → c ≡ write (b .device) 0x1c 1 → d ≡ write (c .device) 0x3c 1 → d .device ≡ waiting w
+unfolding waiting
+waiting-is w n a b c d e₀ e₁ e₂ e₃ e₄ = rw (e₄, e₃, e₂, e₁, e₀)
+
+pub bench-is : (w : ℕ) (s : Enet) (a b : Answered) → s ≡ waiting w → a ≡ write s 0x10 5 → b ≡ write (a .device) 0x30 5 → b .device ≡ bench w
 unfolding bench
-bench-is w n a b c d e₀ e₁ e₂ e₃ e₄ = rw (e₄, e₃, e₂, e₁, e₀)
+bench-is w s a b e₀ e₁ e₂ = rw (e₂, e₁, e₀)
 
 module _ (step : Enet → List ℕ → Outcome) where
   pub rounds-turn : (left taken p : ℕ) (d : Enet) (m : List ℕ) (a : Answered) (m' : List ℕ) → 0 < left → outcome a m' ≡ step d m

@@ -8,15 +8,22 @@ use Rattle.enet.specs.declared.Enet.{Enet}
 use Rattle.enet.specs.Device.{Outcome, new}
 use Rattle.enet.specs.Access.{write}
 
--- a bench over a window at address 0: MAC address high and low for station 02-00-00-00-00-01, and both engines started, at
--- address 0, by their start registers
-unfoldable pub bench : ℕ → Enet
-bench window =
+-- a bench over a window at address 0: MAC address high and low for station 02-00-00-00-00-01, and both next-descriptor registers
+-- address 0, with polling
+unfoldable pub waiting : ℕ → Enet
+waiting window =
     let a = new 0 window .device in
     let b = write a 0x404 0x100 .device in
     let c = write b 0x408 2 .device in
-    let d = write c 0x10 5 .device in
-    write d 0x30 5 .device
+    let d = write c 0x1c 1 .device in
+    write d 0x3c 1 .device
+
+-- and both engines started
+unfoldable pub bench : ℕ → Enet
+bench window =
+    let a = waiting window in
+    let b = write a 0x10 5 .device in
+    write b 0x30 5 .device
 
 -- the window that lent memory asks for
 abbrev pub windowOf : List ℕ → ℕ
