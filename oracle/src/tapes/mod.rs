@@ -89,6 +89,12 @@ impl Tape {
         self.data.saturating_sub(before).min(block::DATA_MOST)
     }
 
+    /// How much data a block says it has by now: a fault that was put before may have changed it.
+    fn used_by_now(&self, place: usize) -> usize {
+        let block = &self.bytes[block::SIZE * place..block::SIZE * (place + 1)];
+        block::number(&block[block::USED]) as usize
+    }
+
     /// One byte of the event data.
     fn data_byte(&mut self, place: usize) -> &mut u8 {
         let data = place % block::DATA_MOST;

@@ -29,7 +29,8 @@ pub fn event(tape: &mut Tape, place: usize, random: &mut Random) -> Option<&'sta
 
 /// A first byte that no event has.
 fn unknown(tape: &mut Tape, place: usize, random: &mut Random) -> Option<&'static str> {
-    let starts = tape.starts_in(place);
+    let mut starts = tape.starts_in(place);
+    starts.retain(|start| *start < tape.used_by_now(place));
     let (first, last) = (starts.first().copied()?, starts.last().copied()?);
     let start = match random.below(4) {
         0 => first,
@@ -78,7 +79,10 @@ fn begun(tape: &mut Tape, place: usize, random: &mut Random) -> Option<&'static 
         return None;
     }
     tape.put_used(place, end as u16);
-    tape.block(place)[block::DATA][used..end].copy_from_slice(begun);
+    let data = &mut tape.block(place)[block::DATA];
+    data[used..end].copy_from_slice(begun);
+    // A longer one may have been begun there before.
+    data[end..].fill(0);
     Some("begun")
 }
 

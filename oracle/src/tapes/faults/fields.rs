@@ -8,7 +8,7 @@ pub const FILLS: &[&str] = &["first", "last", "any"];
 
 /// A byte of the zero fill; only a part-filled last block has one.
 pub fn fill(tape: &mut Tape, place: usize, random: &mut Random) -> Option<&'static str> {
-    let used = tape.used(place);
+    let used = tape.used_by_now(place);
     let last = block::DATA_MOST - 1;
     if used > last {
         return None;
