@@ -1,6 +1,6 @@
 //! Counts the answers that a comparison meets, and names those it must.
 
-use super::{bursts, hashes};
+use super::{bursts, hashes, polling};
 use crate::tally::Tally;
 use std::fmt;
 
@@ -51,6 +51,7 @@ const ANSWERS: [(&str, &[u32]); 9] = [
 pub fn expect(tally: &mut Tally) {
     bursts::expect(tally);
     hashes::expect(tally);
+    polling::expect(tally);
     for number in 0..=16 {
         tally.expect(number_name(number));
     }
@@ -76,7 +77,7 @@ pub fn expect(tally: &mut Tally) {
 
 /// How often a kind must be met in a whole comparison.
 pub fn least(kind: &str) -> usize {
-    match hashes::least(kind) {
+    match hashes::least(kind).or_else(|| polling::least(kind)) {
         Some(least) => least,
         None if bursts::is_answer(kind) => bursts::ANSWER_LEAST,
         None => LEAST,

@@ -3,6 +3,7 @@
 pub mod answers;
 mod bursts;
 mod hashes;
+mod polling;
 mod shorten;
 
 pub use shorten::report;
@@ -47,12 +48,14 @@ pub fn difference(program: &Path, script: &Script, tally: &mut Tally) -> Option<
     let run = program::run(program, &[&input], Duration::ZERO);
     let mut written = run.output.split_inclusive(|byte| *byte == b'\n');
     let mut console = Console::new();
+    let mut watch = polling::Watch::default();
     for (place, line) in script.iter().enumerate() {
         let Some(wanted) = console.take(line) else {
             continue;
         };
         answers::count(tally, line, &wanted);
         hashes::count(tally, line, &wanted, &console.bench.filter());
+        watch.count(tally, line, &wanted, &console);
         let got = written.next().unwrap_or(b"");
         if got != format!("{wanted}\n").as_bytes() {
             let got = match got {

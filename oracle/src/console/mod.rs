@@ -40,6 +40,11 @@ impl Console {
         }
     }
 
+    /// The memory as it is lent to the bench.
+    pub fn lent(&self) -> &[u8] {
+        &self.memory[..self.lent]
+    }
+
     /// Takes one line without its line feed; gives the line written for it, if any.
     pub fn take(&mut self, line: &[u8]) -> Option<String> {
         self.lines += 1;

@@ -11,6 +11,9 @@ const STATUS: usize = 12;
 /// Control word: transfer count and next-enable.
 const COUNT: u32 = 0xFFF;
 const NEXT_ENABLE: u32 = 1 << 14;
+/// Next word and next-descriptor register alike: bit 0, NPOL_EN, enables polling at the place that
+/// the word leads to. Bit 1 is reserved.
+pub const POLLING: u32 = 1 << 0;
 /// Packet status word: the level 1 of VALID gives the descriptor to the DMA in both directions.
 pub const VALID: u32 = 1 << 16;
 const FRAME_LENGTH: u32 = 0x7FF;
@@ -65,6 +68,11 @@ impl Descriptor {
 
     pub fn next(&self) -> u32 {
         aligned(self.next)
+    }
+
+    /// The next word as it stands, low bits and all: what leads an engine on.
+    pub fn next_word(&self) -> u32 {
+        self.next
     }
 
     pub fn granted(&self) -> bool {

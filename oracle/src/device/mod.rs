@@ -15,7 +15,7 @@ mod tests;
 mod window;
 
 pub use burst::Pair;
-pub use descriptor::{SIZE as DESCRIPTOR_SIZE, VALID};
+pub use descriptor::{POLLING, SIZE as DESCRIPTOR_SIZE, VALID};
 pub use engine::Engine;
 pub use send::StepRun;
 pub use window::Window;

@@ -4,7 +4,7 @@ use super::descriptor::Descriptor;
 use super::engine::RECEIVE;
 use super::registers::PACKET_LOST;
 use super::Bench;
-use crate::numbers::{CHAIN_FAULT, DONE, LENT_LENGTH, NOT_GRANTED, NOT_RUNNING};
+use crate::numbers::{CHAIN_FAULT, DONE, LENT_LENGTH, NOT_RUNNING};
 use crate::verdict;
 
 impl Bench {
@@ -27,7 +27,7 @@ impl Bench {
         };
         if !descriptor.granted() {
             self.registers.raise(PACKET_LOST);
-            return NOT_GRANTED;
+            return self.receiver.not_granted();
         }
         let length = frame.len() as u64;
         let buffer = descriptor.buffer(&self.window, place, length);

@@ -1,6 +1,6 @@
 //! The sound ring.
 
-use super::descriptor::{Descriptor, SIZE};
+use super::descriptor::{Descriptor, POLLING, SIZE};
 use super::Bench;
 use std::ops::Range;
 
@@ -32,6 +32,10 @@ impl Bench {
     fn regions(&self, memory: &[u8], address: u32) -> Option<(Range<usize>, Range<usize>, u32)> {
         let descriptor = Descriptor::read(&self.window, memory, address)?;
         if !descriptor.next_enable() || descriptor.count() < COUNT_LEAST {
+            return None;
+        }
+        // "A ring is sound only with it in every descriptor."
+        if descriptor.next_word() & POLLING == 0 {
             return None;
         }
         Some((

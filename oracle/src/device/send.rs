@@ -5,8 +5,7 @@ use super::engine::SEND;
 use super::Bench;
 use crate::check;
 use crate::numbers::{
-    ALLOWANCE_OVER, CHAIN_FAULT, DONE, LENT_LENGTH, NOT_GRANTED, NOT_RUNNING, OUTPUT_SHORT,
-    SEND_LENGTH,
+    ALLOWANCE_OVER, CHAIN_FAULT, DONE, LENT_LENGTH, NOT_RUNNING, OUTPUT_SHORT, SEND_LENGTH,
 };
 
 /// The least output that a send may be lent, whatever it sends.
@@ -53,7 +52,7 @@ impl Bench {
             return Err(CHAIN_FAULT);
         };
         if !descriptor.granted() {
-            return Err(NOT_GRANTED);
+            return Err(self.sender.not_granted());
         }
         let Some(buffer) = descriptor.buffer(&self.window, place, descriptor.count()) else {
             self.sender.running = false;

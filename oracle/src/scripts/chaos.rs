@@ -2,6 +2,7 @@
 
 use super::layout::{NEXT_ENABLE, VALID};
 use super::writer::Writer;
+use crate::side::Side;
 
 /// A new window in which a few descriptors are many.
 pub fn small_window(writer: &mut Writer) {
@@ -73,6 +74,7 @@ pub fn descriptor(writer: &mut Writer) {
         true => inside(writer),
         false => writer.mark(),
     };
+    let next = next | writer.low_bits();
     let status = writer
         .random
         .pick(&[VALID, VALID, VALID, 64, 100, 0x1_0040]);
@@ -87,10 +89,10 @@ pub fn descriptor(writer: &mut Writer) {
 
 /// Starts one engine at a marked place.
 pub fn engine(writer: &mut Writer) {
-    let address = writer.mark();
-    let (start, next) = writer.random.pick(&[(0x10, 0x1C), (0x30, 0x3C)]);
-    writer.say(format!("write {start:x} 0"));
-    writer.say(format!("write {next:x} {address:x}"));
-    writer.say(format!("write {start:x} 5"));
+    let word = writer.mark() | writer.low_bits();
+    let side = writer.random.pick(&Side::BOTH);
+    writer.write_start(side, 0);
+    writer.write_next(side, word);
+    writer.write_start(side, 5);
     writer.say("state");
 }

@@ -1,6 +1,6 @@
 //! Sound rings damaged in one way each, then asked about and used.
 
-use super::layout::{self, Place, NEXT_ENABLE, VALID};
+use super::layout::{self, Place, NEXT_ENABLE, POLLING, VALID};
 use super::writer::Writer;
 
 pub fn of_a_ring(writer: &mut Writer) {
@@ -69,7 +69,9 @@ pub fn damage(writer: &mut Writer, ring: &[Place], place: &mut Place) {
     let (base, end) = (writer.base(), writer.end());
     let size = place.count();
     let fitting = size.next_multiple_of(4);
-    match writer.random.below(22) {
+    // Where the next word leads elsewhere, its low bits stay, so that it is the place that counts.
+    let low_bits = place.next & 3;
+    match writer.random.below(24) {
         0 => place.control &= !NEXT_ENABLE,
         1 => place.control = place.control & !0xFFF | 1_517,
         2 => place.control &= !0xFFF,
@@ -87,14 +89,12 @@ pub fn damage(writer: &mut Writer, ring: &[Place], place: &mut Place) {
         14 => place.start = other.address,
         15 => place.start = other.address.wrapping_sub(fitting - 4),
         16 => place.start = other.address.wrapping_add(16),
-        17 => place.next = other.address,
-        18 => place.next = place.address,
-        19 => place.next = end.wrapping_sub(writer.random.pick(&[0, 4, 12, 16])),
-        20 => {
-            place.next = place
-                .next
-                .wrapping_add(writer.random.pick(&[1, 2, 3, 4, 8, 12]))
-        }
+        17 => place.next = other.address | low_bits,
+        18 => place.next = place.address | low_bits,
+        19 => place.next = end.wrapping_sub(writer.random.pick(&[0, 4, 12, 16])) | low_bits,
+        20 => place.next = place.next.wrapping_add(writer.random.pick(&[4, 8, 12])),
+        21 => place.next &= !POLLING,
+        22 => place.next ^= writer.random.between(1, 3) as u32,
         _ => place.status = writer.random.word(),
     }
 }
@@ -105,13 +105,15 @@ fn use_it(writer: &mut Writer, ring: &[Place]) {
         writer.poke_word(place.address.wrapping_add(12), VALID);
     }
     writer.say("write 10 0");
-    writer.say(format!("write 1c {:x}", ring[0].address));
+    let first = ring[0].address | writer.low_bits();
+    writer.say(format!("write 1c {first:x}"));
     writer.say("write 400 80000000");
     writer.say("write 10 5");
     if writer.random.once_in(2) {
-        writer.burst_of(ring.len() + 1);
+        writer.burst_of(ring.len() + 2);
     } else {
-        for _ in 0..ring.len().min(4) {
+        // Once round a short ring, and twice at a place that is not granted again.
+        for _ in 0..ring.len().min(4) + 2 {
             writer.frame();
             writer.say("state");
         }

@@ -1,7 +1,7 @@
 //! Lays out descriptors and buffers in a window.
 
 use super::writer::Writer;
-pub use crate::device::VALID;
+pub use crate::device::{POLLING, VALID};
 
 /// Control word: next-enable, and all bits that the device does not look at.
 pub const NEXT_ENABLE: u32 = 1 << 14;
@@ -63,7 +63,7 @@ pub fn sound_ring(writer: &mut Writer, count: usize) -> Vec<Place> {
             address: descriptors[place],
             control: counts[place] as u32 | NEXT_ENABLE | unused(writer, UNUSED_CONTROL),
             start: buffers[place],
-            next: descriptors[(place + 1) % count] | unused(writer, 3),
+            next: descriptors[(place + 1) % count] | POLLING | unused(writer, 2),
             status: unused(writer, !VALID),
         })
         .collect();

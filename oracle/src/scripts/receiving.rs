@@ -1,7 +1,9 @@
 //! Days of a receiving bench with a sound ring, the firmware granting in order or not.
 
 use super::layout::{self, Place};
+use super::polling;
 use super::writer::Writer;
+use crate::side::Side;
 
 pub fn on_a_sound_ring(writer: &mut Writer) {
     let count = match writer.random.below(4) {
@@ -10,9 +12,13 @@ pub fn on_a_sound_ring(writer: &mut Writer) {
         1 => writer.random.between(1, 32),
         _ => writer.random.between(1, 5),
     };
-    let ring = layout::sound_ring(writer, count);
+    let mut ring = layout::sound_ring(writer, count);
     let first = ring[0].address;
     writer.say(format!("ring {count} {first:x}"));
+    if writer.random.once_in(2) {
+        polling::mix(writer, &mut ring);
+        writer.say(format!("ring {count} {first:x}"));
+    }
     writer.set_filter();
     start(writer, first);
     writer.observe();
@@ -24,9 +30,15 @@ pub fn on_a_sound_ring(writer: &mut Writer) {
     writer.say(format!("ring {count} {first:x}"));
 }
 
+/// Starts receiving at this place, with polling or without.
 pub fn start(writer: &mut Writer, first: u32) {
-    let low_bits = writer.random.below(4) as u32;
-    writer.say(format!("write 1c {:x}", first | low_bits));
+    let low_bits = writer.low_bits();
+    start_by(writer, first | low_bits);
+}
+
+/// Starts receiving by this word of its register.
+pub fn start_by(writer: &mut Writer, word: u32) {
+    writer.say(format!("write 1c {word:x}"));
     let extra = match writer.random.below(3) {
         0 => writer.random.word() & !5,
         _ => 0,
@@ -40,11 +52,14 @@ fn step(writer: &mut Writer, ring: &[Place], granted: &mut usize) {
         let place = writer.console.bench.receiver.place;
         start(writer, place);
     }
-    match writer.random.below(28) {
+    match writer.random.below(30) {
         0..=7 => {
             let place = writer.console.bench.receiver.place;
-            writer.frame();
+            let lost = polling::is_8(&writer.frame());
             look_at(writer, place);
+            if lost && writer.random.once_in(3) && polling::go_on(writer, Side::Receiving) {
+                *granted += 1;
+            }
         }
         8..=14 => {
             let address = ring[*granted % ring.len()].address;
@@ -82,6 +97,11 @@ fn step(writer: &mut Writer, ring: &[Place], granted: &mut usize) {
         22 => writer.any(),
         23 | 24 => writer.burst_and_look(),
         25 | 26 => writer.change_filter(),
+        // A sound ring stays one.
+        27 if ring.iter().any(|place| place.next & layout::POLLING == 0) => {
+            polling::change_next_word(writer, Side::Receiving, ring)
+        }
+        28 => polling::start_again(writer, Side::Receiving),
         _ => writer.observe(),
     }
 }
@@ -104,8 +124,8 @@ pub fn look_at(writer: &mut Writer, place: u32) {
 fn restart(writer: &mut Writer, ring: &[Place]) {
     let value = writer.start_value();
     writer.say(format!("write 10 {value:x}"));
-    let address = writer.random.pick(ring).address;
-    writer.say(format!("write 1c {address:x}"));
+    let word = writer.random.pick(ring).address | writer.low_bits();
+    writer.say(format!("write 1c {word:x}"));
     writer.say("state");
     writer.frame();
     writer.say("write 10 5");
@@ -144,7 +164,8 @@ fn end_of_chain(writer: &mut Writer, ring: &[Place]) {
     for entry in ring {
         entry.write(writer);
     }
-    writer.say(format!("write 1c {place:x}"));
+    let word = place | writer.low_bits();
+    writer.say(format!("write 1c {word:x}"));
     writer.say("write 10 5");
     writer.say("state");
 }

@@ -52,7 +52,7 @@ impl Writer {
         let offset = self.offset();
         let value = match offset {
             0x10 | 0x30 => self.start_value(),
-            0x1C | 0x3C => self.mark(),
+            0x1C | 0x3C => self.mark() | self.low_bits(),
             _ => self.value(),
         };
         self.say(format!("write {offset:X} {value:X}"));

@@ -1,7 +1,9 @@
 //! Sending along chains: sound ones, ending ones, closed ones and faulty ones.
 
 use super::layout::{Place, NEXT_ENABLE, VALID};
+use super::polling;
 use super::writer::Writer;
+use crate::side::Side;
 
 const COUNTS: [u32; 18] = [
     0, 1, 13, 14, 15, 59, 60, 61, 62, 64, 100, 1_513, 1_514, 1_515, 1_516, 1_518, 4_094, 4_095,
@@ -64,7 +66,7 @@ fn chain(writer: &mut Writer, count: usize) -> Vec<Place> {
                 address,
                 control,
                 start: start_address(writer, address, size, count, at_end),
-                next: next | writer.random.below(4) as u32,
+                next: next | writer.low_bits(),
                 status,
             }
         })
@@ -105,9 +107,10 @@ fn start_address(writer: &mut Writer, own: u32, size: u32, count: usize, at_end:
     }
 }
 
+/// Starts sending at this place, with polling or without.
 pub fn start(writer: &mut Writer, first: u32) {
-    let low_bits = writer.random.below(4) as u32;
-    writer.say(format!("write 3c {:x}", first | low_bits));
+    let word = first | writer.low_bits();
+    writer.say(format!("write 3c {word:x}"));
     writer.say("write 30 5");
 }
 
@@ -117,16 +120,19 @@ fn step(writer: &mut Writer, chain: &[Place]) {
         grant_again(writer, chain);
         start(writer, first);
     }
-    match writer.random.below(18) {
+    match writer.random.below(20) {
         0..=4 => {
             let room = match writer.random.below(4) {
                 0 => writer.room(),
                 _ => 1_518,
             };
             let place = writer.console.bench.sender.place;
-            writer.say(format!("send {room}"));
+            let lost = polling::is_8(&writer.say(format!("send {room}")));
             writer.say("state");
             writer.say(format!("peek {place:x} 16"));
+            if lost && writer.random.once_in(2) {
+                polling::go_on(writer, Side::Sending);
+            }
         }
         5..=8 => writer.run_at_boundary(),
         9 => {
@@ -143,7 +149,8 @@ fn step(writer: &mut Writer, chain: &[Place]) {
         13 => {
             let value = writer.start_value();
             writer.say(format!("write 30 {value:x}"));
-            writer.say(format!("write 3c {:x}", chain[0].address));
+            let word = chain[0].address | writer.low_bits();
+            writer.say(format!("write 3c {word:x}"));
             writer.say("state");
         }
         14 => writer.lend_wrong(),
@@ -153,6 +160,8 @@ fn step(writer: &mut Writer, chain: &[Place]) {
             writer.say("read 8");
         }
         16 => writer.any(),
+        17 => polling::change_next_word(writer, Side::Sending, chain),
+        18 => polling::start_again(writer, Side::Sending),
         _ => writer.observe(),
     }
 }

@@ -1,8 +1,10 @@
 //! The generators make what they say.
 
 use super::*;
+use crate::device::Bench;
 use crate::random::Random;
 use crate::trace;
+use crate::ungranted::Ungranted;
 
 #[test]
 fn good_traces_are_good_and_of_every_shape() {
@@ -27,6 +29,24 @@ fn good_traces_are_good_and_of_every_shape() {
     }
     for shape in SHAPES {
         assert!(met.contains(&format!("{shape:?}")), "{shape:?}");
+    }
+}
+
+#[test]
+fn good_traces_meet_every_kind_of_8() {
+    let mut random = Random::new(16);
+    let mut met = Vec::new();
+    for _ in 0..400 {
+        let tape = good(&mut random);
+        let content = trace::content(&tape.bytes).expect("a good trace has no bad block");
+        let Header { base, length } = content.header;
+        let (bench, _) = Bench::new(base, length.into());
+        let (list, output) = (content.events, vec![0; 1_518]);
+        met.extend(Ungranted::in_events(&list, bench, tape.image, output));
+    }
+    for kind in Ungranted::all() {
+        let count = met.iter().filter(|other| **other == kind).count();
+        assert!(count > 50, "{kind}: {count}");
     }
 }
 

@@ -5,6 +5,7 @@ use crate::scripts::KINDS;
 use crate::{large, lengths, limits, targets};
 use oracle::tally::Tally;
 use oracle::tapes::FEATURES;
+use oracle::ungranted::Ungranted;
 
 /// How often most kinds must be met in a whole comparison, and the few that are made by hand alone.
 const LEAST: usize = 10;
@@ -61,6 +62,10 @@ pub fn replay_name(first: &str) -> String {
 
 pub fn memory_name(kind: &str) -> String {
     format!("memory: {kind}")
+}
+
+pub fn ungranted_name(kind: Ungranted) -> String {
+    format!("replay answer: {kind}")
 }
 
 pub fn feature_name(feature: &str) -> String {
@@ -125,6 +130,9 @@ pub fn expect(tally: &mut Tally) {
         for number in numbers {
             tally.expect(format!("replay answer: {event} {number}"));
         }
+    }
+    for kind in Ungranted::all() {
+        tally.expect(ungranted_name(kind));
     }
     for kind in KINDS {
         tally.expect(script_name(kind));

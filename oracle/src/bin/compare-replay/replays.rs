@@ -2,12 +2,14 @@
 
 use crate::compare::{Comparison, Start};
 use crate::expected;
+use oracle::device::Bench;
 use oracle::files::{Contents, Entry};
 use oracle::hex;
 use oracle::programs::replay::MEMORY_MOST;
 use oracle::random::Random;
 use oracle::tapes::{self, Tape};
-use oracle::trace::{Event, Header};
+use oracle::trace::{self, Event, Header};
+use oracle::ungranted::Ungranted;
 
 const TRACE: &str = "day.trace";
 const MEMORY: &str = "day.memory";
@@ -65,8 +67,22 @@ pub fn one(comparison: &mut Comparison, trace: &[u8], memory: &[u8]) -> Result<(
     for feature in tapes::features(trace) {
         comparison.tally.met(expected::feature_name(feature));
     }
+    for kind in ungranted(trace, memory) {
+        comparison.tally.met(expected::ungranted_name(kind));
+    }
     let before = contents(comparison, &[(TRACE, trace), (MEMORY, memory)]);
     given(comparison, &[TRACE, MEMORY], &before)
+}
+
+/// Each 8 of a replay by its kind; none where the trace is refused or another memory is lent.
+fn ungranted(trace: &[u8], memory: &[u8]) -> Vec<Ungranted> {
+    let Ok(content) = trace::content(trace) else {
+        return Vec::new();
+    };
+    let Header { base, length } = content.header;
+    let (bench, _) = Bench::new(base, length.into());
+    // The program lends each send as much as any needs.
+    Ungranted::in_events(&content.events, bench, memory.to_vec(), vec![0; 1_518])
 }
 
 /// Replays a trace with a memory that is not there: that is told, whatever the trace is.

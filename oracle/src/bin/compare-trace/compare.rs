@@ -2,9 +2,11 @@
 
 use crate::difference::{self, BEFORE};
 use crate::{expected, found, library};
+use oracle::device::{Bench, Window};
 use oracle::tally::Tally;
 use oracle::tapes::{Lent, List, Tape};
 use oracle::trace::{self, block, Header, Reading, BLOCKS_MOST};
+use oracle::ungranted::Ungranted;
 use oracle::{hex, numbers};
 
 /// The most bytes of a trace or list that a report shows.
@@ -89,6 +91,8 @@ impl Comparison {
         match wanted.number {
             numbers::DONE => {
                 self.answers(&left.answers[..wanted.events as usize]);
+                let list = &left.room[..wanted.bytes as usize];
+                self.ungranted(list, wanted.bench.window, lent);
                 if lent.answers.len() as u64 > wanted.events {
                     self.tally.met(expected::LONGER_LIST);
                 }
@@ -127,6 +131,15 @@ impl Comparison {
     fn answers(&mut self, answers: &[u32]) {
         for answer in answers {
             self.tally.met(expected::answer_name(*answer));
+        }
+    }
+
+    /// Each 8 of a replay by its kind.
+    fn ungranted(&mut self, list: &[u8], window: Window, lent: &Lent) {
+        let (bench, _) = Bench::new(window.base as u32, window.length);
+        let (memory, output) = (lent.memory.clone(), lent.output.clone());
+        for kind in Ungranted::in_events(list, bench, memory, output) {
+            self.tally.met(expected::ungranted_name(kind));
         }
     }
 

@@ -2,6 +2,7 @@
 
 use oracle::tally::Tally;
 use oracle::tapes::{fault_names, DAMAGES, FEATURES, SHAPES};
+use oracle::ungranted::Ungranted;
 
 /// How often each number and each answer of a replay must be met in a whole comparison.
 const LEAST: usize = 100;
@@ -46,6 +47,10 @@ pub fn call_name(call: &str, number: u32) -> String {
 
 pub fn answer_name(number: u32) -> String {
     format!("replay answer {number:>2}")
+}
+
+pub fn ungranted_name(kind: Ungranted) -> String {
+    format!("replay answer {kind}")
 }
 
 pub fn damage_name(damage: &str) -> String {
@@ -126,6 +131,9 @@ pub fn expect(tally: &mut Tally) {
     }
     for answer in ANSWERS {
         tally.expect(answer_name(answer));
+    }
+    for kind in Ungranted::all() {
+        tally.expect(ungranted_name(kind));
     }
     for (number, places) in PLACES {
         for place in places {

@@ -22,7 +22,7 @@ pub fn writing(writing: &Writing) -> [u64; WRITING.len()] {
     [writing.number.into(), writing.blocks]
 }
 
-pub const REPLAY: [&str; 21] = [
+pub const REPLAY: [&str; 23] = [
     "number",
     "block",
     "bytes",
@@ -40,10 +40,12 @@ pub const REPLAY: [&str; 21] = [
     "receive next-descriptor register",
     "receiving runs",
     "receive place",
+    "receive polling",
     "send start register",
     "send next-descriptor register",
     "sending runs",
     "send place",
+    "send polling",
 ];
 
 /// Offsets in the order of the list above: those of both, and start and next of each engine.
@@ -64,7 +66,11 @@ pub fn replay(replay: &Replay) -> Vec<u64> {
     found.extend(registers(bench, &BOTH));
     for (offsets, engine) in [(RECEIVE, bench.receiver), (SEND, bench.sender)] {
         found.extend(registers(bench, &offsets));
-        found.extend([u64::from(engine.running), engine.place.into()]);
+        found.extend([
+            u64::from(engine.running),
+            engine.place.into(),
+            engine.polling.into(),
+        ]);
     }
     found
 }

@@ -1,9 +1,10 @@
 //! What a whole run must have met, or the claims would have said too little.
 
+use crate::without_polling::{AT_THE_START, IN_ONE_WORD};
 use oracle::tally::Tally;
 
 /// Met once at least.
-const ONCE: [&str; 21] = [
+const ONCE: [&str; 23] = [
     "frame delivered",
     "frame lost",
     "frame turned away",
@@ -25,6 +26,8 @@ const ONCE: [&str; 21] = [
     "firmware write",
     "pair with never fewer grants: more delivered",
     "pair with never fewer grants: as many delivered",
+    AT_THE_START,
+    IN_ONE_WORD,
 ];
 
 /// Group frames about which the hash decided.

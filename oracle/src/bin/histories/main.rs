@@ -11,6 +11,7 @@ mod sequence;
 mod start;
 mod step;
 mod steps;
+mod without_polling;
 
 use arrivals::Arrival;
 use claims::Mark;
@@ -30,6 +31,10 @@ fn main() -> ExitCode {
     for seed in 0..PAIRS {
         if let Err(fault) = pair(seed, &mut tally) {
             println!("histories: pair {seed}: {fault}");
+            return ExitCode::FAILURE;
+        }
+        if let Err(fault) = without_polling::hold(seed, &mut tally) {
+            println!("histories: start {seed} without polling: {fault}");
             return ExitCode::FAILURE;
         }
     }

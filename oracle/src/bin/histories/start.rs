@@ -1,8 +1,13 @@
 //! Where a history starts.
 
-use oracle::device::{Bench, VALID};
+use oracle::device::{Bench, POLLING, VALID};
 use oracle::random::Random;
 use oracle::scripts;
+use oracle::side::Side;
+
+/// What a start can lack for want of polling.
+pub const NOT_SOUND: &str = "the ring is not sound";
+pub const NO_POLLING: &str = "receiving does not poll at the first descriptor";
 
 #[derive(Clone, PartialEq, Eq)]
 pub struct Start {
@@ -31,14 +36,41 @@ impl Start {
         }
     }
 
-    fn fault(&self) -> Option<&str> {
+    /// The same start, but without polling for the starting place.
+    pub fn without_polling(&self) -> Start {
+        let mut start = self.clone();
+        let (register, first) = (Side::Receiving.next(), start.ring[0]);
+        for (offset, value) in [
+            (Side::Receiving.start(), 0),
+            (register, first),
+            (Side::Receiving.start(), 5),
+        ] {
+            assert_eq!(start.bench.write(offset, value), 0);
+        }
+        start
+    }
+
+    /// The same start, but without the polling bit in one descriptor's next word.
+    pub fn without_polling_in(&self, chosen: usize) -> Start {
+        let mut start = self.clone();
+        let descriptor = start.ring[chosen] - start.bench.window.base as u32;
+        start.memory[descriptor as usize + 8] &= !(POLLING as u8);
+        start
+    }
+
+    /// What it lacks to be a start of the claims.
+    pub fn fault(&self) -> Option<&str> {
         let first = self.ring[0];
         let count = self.ring.len() as u32;
         if !self.bench.ring(&self.memory, count, first) {
-            return Some("the ring is not sound");
+            return Some(NOT_SOUND);
         }
         if !self.bench.receiver.running || self.bench.receiver.place != first {
             return Some("receiving does not stand at the first descriptor");
+        }
+        // "Demand 3 is read with polling enabled for the starting place."
+        if !self.bench.receiver.polling {
+            return Some(NO_POLLING);
         }
         if self.bench.sender.running {
             return Some("sending runs");

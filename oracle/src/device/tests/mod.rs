@@ -4,6 +4,7 @@ mod bursts;
 mod by_hash;
 mod grants;
 mod marked;
+mod polling;
 mod readings;
 mod receiving;
 mod register_access;
@@ -16,6 +17,9 @@ use crate::check;
 
 /// Control bits of a descriptor.
 const NEXT_ENABLE: u32 = 1 << 14;
+/// Low bits of a word that leads to a place: polling, and the reserved one beside it.
+const POLLING: u32 = 1;
+const RESERVED: u32 = 2;
 /// The granted level, all other status bits 0.
 const GRANTED: u32 = 0x0001_0000;
 

@@ -1,16 +1,16 @@
-use super::{frame, Trial, GRANTED, NEXT_ENABLE, OWN, RESET_STATUS, RX_START};
+use super::{frame, Trial, GRANTED, NEXT_ENABLE, OWN, POLLING, RESET_STATUS, RX_START};
 use crate::check;
 
 const RX_CURR_DONE: u32 = 0x0000_8000;
 const RX_DONE: u32 = 0x0000_0080;
 const PACKET_LOST: u32 = 0x0000_0020;
 
-/// Two granted descriptors at 0 and 16, buffers at 0x100 and 0x200, in a ring.
+/// Two granted descriptors at 0 and 16, buffers at 0x100 and 0x200, in a ring with polling.
 fn ring_of_two() -> Trial {
     let mut trial = Trial::new(0x400);
-    trial.descriptor(0, 0x100 | NEXT_ENABLE, 0x100, 16, GRANTED);
-    trial.descriptor(16, 0x100 | NEXT_ENABLE, 0x200, 0, GRANTED);
-    trial.start_receiving(0);
+    trial.descriptor(0, 0x100 | NEXT_ENABLE, 0x100, 16 | POLLING, GRANTED);
+    trial.descriptor(16, 0x100 | NEXT_ENABLE, 0x200, POLLING, GRANTED);
+    trial.start_receiving(POLLING);
     trial
 }
 

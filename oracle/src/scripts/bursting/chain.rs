@@ -67,7 +67,7 @@ fn chain(writer: &mut Writer, count: usize, size: u32) -> Vec<Place> {
                 address: table.wrapping_add(16 * place as u32),
                 control: size | next_enable,
                 start: buffers.wrapping_add(size * place as u32),
-                next: table.wrapping_add(16 * ((place + 1) % count) as u32),
+                next: table.wrapping_add(16 * ((place + 1) % count) as u32) | writer.low_bits(),
                 status: VALID,
             }
         })
@@ -79,6 +79,7 @@ fn spoil(writer: &mut Writer, chain: &mut [Place], chosen: usize) {
     let (base, end) = (writer.base(), writer.end());
     let other = writer.random.pick(chain);
     let place = &mut chain[chosen];
+    let low_bits = place.next & 3;
     match writer.random.below(12) {
         0 | 1 => place.control &= !NEXT_ENABLE,
         2 => place.status = writer.random.pick(&[0, 64, !VALID]),
@@ -91,8 +92,8 @@ fn spoil(writer: &mut Writer, chain: &mut [Place], chosen: usize) {
             place.start = place.address.wrapping_add(16).wrapping_sub(away);
         }
         // Not in the window, or not all of it.
-        8 | 9 => place.next = end.wrapping_sub(writer.random.pick(&[0, 4, 12])),
-        10 => place.next = other.address,
+        8 | 9 => place.next = end.wrapping_sub(writer.random.pick(&[0, 4, 12])) | low_bits,
+        10 => place.next = other.address | low_bits,
         // Over another descriptor, which the burst may come to later.
         _ => place.start = other.address,
     }

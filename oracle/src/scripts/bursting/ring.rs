@@ -2,14 +2,17 @@
 
 use crate::scripts::layout::{self, Place, VALID};
 use crate::scripts::writer::Writer;
-use crate::scripts::{damage, receiving};
+use crate::scripts::{damage, polling, receiving};
 
 pub fn on_a_ring(writer: &mut Writer) {
     let count = match writer.random.below(4) {
         0 => writer.random.pick(&[1, 2, 32, 42]),
         _ => writer.random.between(1, 8),
     };
-    let ring = layout::sound_ring(writer, count);
+    let mut ring = layout::sound_ring(writer, count);
+    if writer.random.once_in(2) {
+        polling::mix(writer, &mut ring);
+    }
     writer.set_filter();
     receiving::start(writer, ring[0].address);
     let mut granted = 0;

@@ -3,8 +3,10 @@
 use super::{grant, send};
 use crate::scripts::damage;
 use crate::scripts::layout::{self, Place, VALID};
+use crate::scripts::polling;
 use crate::scripts::receiving::start;
 use crate::scripts::writer::Writer;
+use crate::side::Side;
 
 pub fn on_a_ring(writer: &mut Writer) {
     let count = match writer.random.below(12) {
@@ -12,6 +14,9 @@ pub fn on_a_ring(writer: &mut Writer) {
         _ => writer.random.between(1, 5),
     };
     let mut ring = layout::sound_ring(writer, count);
+    if !writer.random.once_in(3) {
+        polling::mix(writer, &mut ring);
+    }
     if writer.random.once_in(3) {
         let chosen = writer.random.below(count);
         let mut broken = ring[chosen];
@@ -45,7 +50,11 @@ fn step(writer: &mut Writer, ring: &[Place], granted: &mut usize) {
         4..=7 => {
             let length = writer.random.pick(&[64, 64, 65, 90, 400, 1_518]);
             let frame = writer.passing_frame(length);
-            writer.say(format!("frame {}", crate::hex::write(&frame)));
+            let answer = writer.say(format!("frame {}", crate::hex::write(&frame)));
+            let lost = polling::is_8(&answer);
+            if lost && writer.random.once_in(2) && polling::go_on(writer, Side::Receiving) {
+                *granted += 1;
+            }
         }
         8..=12 => {
             let address = ring[*granted % ring.len()].address;
@@ -62,8 +71,8 @@ fn step(writer: &mut Writer, ring: &[Place], granted: &mut usize) {
         _ => {
             let value = writer.start_value();
             writer.say(format!("write 10 {value:x}"));
-            let address = writer.mark();
-            writer.say(format!("write 1c {address:x}"));
+            let word = writer.mark() | writer.low_bits();
+            writer.say(format!("write 1c {word:x}"));
         }
     }
 }

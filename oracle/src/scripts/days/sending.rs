@@ -2,8 +2,10 @@
 
 use super::{grant, send};
 use crate::scripts::layout::Place;
+use crate::scripts::polling;
 use crate::scripts::sending::{start, started_chain};
 use crate::scripts::writer::Writer;
+use crate::side::Side;
 
 pub fn along_a_chain(writer: &mut Writer) {
     let length = match writer.random.below(3) {
@@ -24,7 +26,10 @@ fn step(writer: &mut Writer, chain: &[Place]) {
     }
     match writer.random.below(12) {
         0..=5 => {
-            send(writer);
+            let lost = polling::is_8(&send(writer));
+            if lost && writer.random.once_in(2) {
+                polling::go_on(writer, Side::Sending);
+            }
         }
         6 | 7 => {
             // What is sent next, most often.
@@ -39,7 +44,8 @@ fn step(writer: &mut Writer, chain: &[Place]) {
         _ => {
             let value = writer.start_value();
             writer.say(format!("write 30 {value:x}"));
-            writer.say(format!("write 3c {:x}", chain[0].address));
+            let word = chain[0].address | writer.low_bits();
+            writer.say(format!("write 3c {word:x}"));
         }
     }
 }

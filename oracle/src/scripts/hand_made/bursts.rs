@@ -78,10 +78,10 @@ pub fn foreign_descriptor() -> String {
         message[..6].copy_from_slice(&OWN);
         message[16..32].copy_from_slice(&[64, 0, 0, 0, 0, 8, 0, 0, 0, 0, 0, 0, 0, 0, granted, 0]);
         let store = hex::write(&check::closed(&message)) + &frame(9);
-        // What stands there before is another descriptor, granted or not.
-        for before in [0, 1] {
+        // What stands there before is another descriptor, granted or not, with polling or without.
+        for (before, polling) in [(0, 0), (0, 1), (1, 0), (1, 1)] {
             text += &format!(
-                "new 0 4096\npoke 0 ff4f0000300000004000000000000100\n\
+                "new 0 4096\npoke 0 ff4f0000300000004{polling}00000000000100\n\
                  poke 40 4040000000090000000000000000{before:02x}00\n\
                  {RECEIVING}burst 3 {store} 0 64 64 64 64 64\n{LOOK}peek 0 128\npeek 800 320\n"
             );

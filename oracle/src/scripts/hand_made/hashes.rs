@@ -99,10 +99,10 @@ pub fn in_a_burst() -> String {
         let bits = VECTORS.iter().enumerate().fold(0, |bits, (place, vector)| {
             bits | u64::from(chosen >> place & 1) << vector.2
         });
-        // Three descriptors, of which two are granted.
+        // Three descriptors with polling, of which two are granted.
         text += &format!(
-            "new 0 4096\npoke 0 40400000000100001000000000000100\n\
-             poke 10 40400000400100002000000000000100\npoke 20 40400000800100000000000000000000\n\
+            "new 0 4096\npoke 0 40400000000100001100000000000100\n\
+             poke 10 40400000400100002100000000000100\npoke 20 40400000800100000100000000000000\n\
              {HASH}{}{RECEIVING}burst 12 {store}{pairs}\n{LOOK}peek 0 512\n",
             table(bits)
         );

@@ -2,12 +2,13 @@
 
 mod bursts;
 mod hashes;
+mod polling;
 
 use crate::compare::Script;
 use crate::{check, hex};
 
-/// Station registers for 02-00-00-00-00-01, and receiving started at address 0.
-const RECEIVING: &str = "write 408 2\nwrite 404 100\nwrite 1c 0\nwrite 10 5\n";
+/// Station registers for 02-00-00-00-00-01, and receiving started at address 0 with polling.
+const RECEIVING: &str = "write 408 2\nwrite 404 100\nwrite 1c 1\nwrite 10 5\n";
 
 /// A closed frame of `length` bytes, as a console line.
 fn frame(destination: [u8; 6], length: usize, filler: u8) -> String {
@@ -42,6 +43,16 @@ pub fn scripts() -> Vec<Script> {
         hashes::one_bit_tables(),
         hashes::filter_modes(),
         hashes::in_a_burst(),
+        polling::at_a_start(),
+        polling::at_a_move(),
+        polling::words_changed_later(),
+        polling::words_changed_before(),
+        polling::started_while_running(),
+        polling::register_behind_a_stop(),
+        polling::both_engines(),
+        polling::several_at_once(),
+        polling::after_reset(),
+        polling::rings(),
     ];
     texts
         .iter()

@@ -5,9 +5,9 @@ use crate::device::Bench;
 use crate::trace::{block, replay, Event};
 
 /// A window of 128 bytes at 0: a receive descriptor at 0 for 64 bytes at 64, without a next, and a
-/// send descriptor at 16 for 14 bytes at 32, granted and linked to itself.
+/// send descriptor at 16 for 14 bytes at 32, granted and linked to itself with polling.
 fn memory() -> Vec<u8> {
-    let words: [u32; 8] = [64, 64, 0, 0, 14 | 1 << 14, 32, 16, 1 << 16];
+    let words: [u32; 8] = [64, 64, 0, 0, 14 | 1 << 14, 32, 16 | 1, 1 << 16];
     let mut memory: Vec<u8> = words.iter().flat_map(|word| word.to_le_bytes()).collect();
     memory.resize(128, 0xA5);
     memory
@@ -22,6 +22,7 @@ fn day() -> Vec<Event> {
     let frame = || Event::Frame { bytes: frame() };
     vec![
         frame(),
+        write(0x1C, 1),
         write(0x10, 5),
         frame(),
         Event::Grant { address: 0 },
@@ -37,7 +38,7 @@ fn day() -> Vec<Event> {
     ]
 }
 
-const ANSWERS: [u32; 13] = [3, 0, 8, 0, 14, 0, 3, 0, 0, 15, 0, 8, 2];
+const ANSWERS: [u32; 14] = [3, 0, 0, 8, 0, 14, 0, 3, 0, 0, 15, 0, 8, 2];
 
 fn trace(events: &[Event]) -> Vec<u8> {
     let header = [0, 0, 0, 0, 127, 0];
@@ -68,9 +69,9 @@ fn a_day_by_hand() {
     let mut answers = vec![99; ANSWERS.len() + 2];
     let played = replay(&trace, &mut room, &mut memory, &mut output, &mut answers);
     assert_eq!((played.number, played.block), (0, 0));
-    assert_eq!((played.bytes, played.events), (list.len() as u64, 13));
-    assert_eq!(answers[..13], ANSWERS);
-    assert_eq!(answers[13..], [99, 99]);
+    assert_eq!((played.bytes, played.events), (list.len() as u64, 14));
+    assert_eq!(answers[..14], ANSWERS);
+    assert_eq!(answers[14..], [99, 99]);
     assert_eq!(room[..list.len()], list);
     assert_eq!(room[list.len()..], [0xEE; 3]);
     assert_eq!(memory[64..], frame());
@@ -88,7 +89,37 @@ fn a_day_by_hand() {
     assert_eq!(played.bench, bench);
     assert_eq!(memory, again);
     assert!(!bench.receiver.running);
+    assert!(bench.receiver.polling);
     assert!(bench.sender.running);
+    assert!(bench.sender.polling);
+}
+
+#[test]
+fn without_polling_8_stops_until_a_start() {
+    let write = |offset, value| Event::Write { offset, value };
+    let frame = || Event::Frame { bytes: frame() };
+    let events = [
+        write(0x10, 5),
+        frame(),
+        frame(),
+        Event::Grant { address: 0 },
+        frame(),
+        write(0x10, 5),
+        frame(),
+        // Sending at the same descriptor, which is returned now; then at one of its own, whose next
+        // word alone has the bit.
+        write(0x30, 5),
+        Event::Send,
+        Event::Send,
+        write(0x3C, 16),
+        write(0x30, 5),
+        Event::Send,
+        Event::Send,
+        Event::Send,
+    ];
+    let answers = answers_of(&events, &mut [0xDD; 1_518]);
+    let wanted = [0, 8, 3, 0, 3, 0, 0, 0, 8, 3, 0, 0, 0, 8, 8];
+    assert_eq!(answers, wanted);
 }
 
 #[test]
@@ -98,11 +129,11 @@ fn refusals_leave_row_1_and_all_that_is_lent() {
     let mut bad = good.clone();
     bad[508] ^= 1;
     for (trace, room, answers, number) in [
-        (&bad, bytes, 13, 19),
+        (&bad, bytes, 14, 19),
         (&bad, 0, 0, 19),
-        (&good, bytes - 1, 13, 23),
+        (&good, bytes - 1, 14, 23),
         (&good, bytes - 1, 0, 23),
-        (&good, bytes, 12, 24),
+        (&good, bytes, 13, 24),
         (&good, bytes + 9, 0, 24),
     ] {
         let mut room = vec![0xEE; room];
@@ -125,7 +156,7 @@ fn memory_of_another_length_is_no_refusal() {
     let mut room = vec![0; Event::list(&events).len()];
     let mut memory = vec![7; 124];
     let mut output = vec![0xDD; 1_518];
-    let mut answers = vec![99; 13];
+    let mut answers = vec![99; 14];
     let played = replay(
         &trace(&events),
         &mut room,
@@ -134,7 +165,7 @@ fn memory_of_another_length_is_no_refusal() {
         &mut answers,
     );
     assert_eq!(played.number, 0);
-    let wanted = [11, 0, 11, 11, 11, 11, 11, 0, 0, 15, 11, 11, 2];
+    let wanted = [11, 0, 0, 11, 11, 11, 11, 11, 0, 0, 15, 11, 11, 2];
     assert_eq!(answers, wanted);
     assert_eq!(memory, [7; 124]);
 }

@@ -3,23 +3,24 @@
 mod frames;
 mod limits;
 
-use super::{Trial, GRANTED, NEXT_ENABLE};
+use super::{Trial, GRANTED, NEXT_ENABLE, POLLING};
 use crate::device::Pair;
 
 /// What an answer list holds before a call.
 const BEFORE: u32 = 99;
 
-/// A chain of `count` granted descriptors from 0 on, buffers of 80 bytes from 0x1000 on. The last
-/// one has no next.
+/// A chain of `count` granted descriptors from 0 on with polling, buffers of 80 bytes from 0x1000
+/// on. The last one has no next.
 fn chain(count: u32) -> Trial {
     let mut trial = Trial::new(0x4000);
     for place in 0..count {
         let next_enable = if place + 1 < count { NEXT_ENABLE } else { 0 };
         let address = 16 * place as usize;
         let start = 0x1000 + 80 * place;
-        trial.descriptor(address, 80 | next_enable, start, 16 * (place + 1), GRANTED);
+        let next = (16 * (place + 1)) | POLLING;
+        trial.descriptor(address, 80 | next_enable, start, next, GRANTED);
     }
-    trial.start_receiving(0);
+    trial.start_receiving(POLLING);
     trial
 }
 
