@@ -26,7 +26,7 @@ start base m d = word m (offset base d + 4)
 unfoldable pub nextWord : ℕ → List ℕ → ℕ → ℕ
 nextWord base m d = word m (offset base d + 8)
 
--- the place of the next descriptor: "The low bits of the next word are ignored." 02, Wish 5: "a next-polling enable in the next word's
--- low bits, unread so far", is no part of the place
+-- the place of the next descriptor: "The low bits of the next word are ignored." Amended by 02, Wish 5: "RM0006 has a next-polling
+-- enable in the next word's low bits, unread so far", which is read apart (`polls`); of the place they are no part
 unfoldable pub next : ℕ → List ℕ → ℕ → ℕ
 next base m d = placeOf (nextWord base m d)

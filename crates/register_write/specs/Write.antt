@@ -18,8 +18,8 @@ use Rattle.writable.specs.Writable.{kept}
 abbrev pub cleared : ℕ → ℕ → ℕ
 cleared isr v = bitAnd isr (2 ^ 32 - 1 - v)
 
--- the registers with what is kept of a value. "All other writable bits .. are stored without effect"; of the next-descriptor
--- registers 02, Wish 5, gives NPOL_EN its effect, at a start
+-- the registers with what is kept of a value. "All other writable bits .. are stored without effect", amended by 02, Wish 5: "The
+-- bit of the word, of register or descriptor, that led to a place .. holds for it", which NPOL_EN does from a start on
 abbrev pub stored : Registers → Register → ℕ → Registers
 stored r Ier v = withEnable r v
 stored r Isr v = withStatus r (cleared (r .isr) v)

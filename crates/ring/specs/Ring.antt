@@ -1,4 +1,4 @@
--- 01, "Sound ring". Each definition takes the window's base and length and the lent memory. Assumes nothing.
+-- 01, "Sound ring", and 02, Wish 5. Each definition takes the window's base and length and the lent memory. Assumes nothing.
 use Prim.Native.Nat.{ℕ, zero, suc}
 use mathlib.Core.Bool.{Bool, true, _&&_}
 use mathlib.Core.List.{List}
@@ -21,7 +21,8 @@ ringFrom base window m first (suc left) d =
     soundDescriptor base window m d && apartFromRest base m d left (next base m d) && ringFrom base window m first left (next base m d)
 
 -- "For a number of descriptors from 1 to 32 and a first address, the answer is yes exactly if .. Any other number, a first
--- address not a multiple of 4, or lent memory of another length gives no."
+-- address not a multiple of 4, or lent memory of another length gives no." Amended by 02, Wish 5: "a ring is sound only with it in
+-- every descriptor", the polling bit (`soundDescriptor`)
 unfoldable pub soundRing : ℕ → ℕ → List ℕ → ℕ → ℕ → Bool
 soundRing base window m number first =
     lent window m && leb 1 number && leb number 32 && aligned first && ringFrom base window m first number first
