@@ -110,61 +110,59 @@ module _ (b : Bench) where
       → (k : ℕ) → k < 1 → granted (b .device .base) (b .memory) (inOrder b first k) ≡ false
   none-granted e k l = let z : k ≡ 0 = omega arith in rw z e
 
-pub at-start : AtStart
+both : AtStart × InRing
 unfolding
     soundRing ringFrom apartFromRest regionsApart soundDescriptor lent aligned inWindow apart placeOf polls follow
     count nextEnabled start nextWord next packetStatus granted withPacketStatus bufferFault bytesFault word wordBytes store
     frame frameNumber lengthAllowed accepts checkRight checkSequence checkNumber checkBits registerBits remainder generator
     receive receiving.receive receiveAt receiveNumber chainNumber rxRefused notGranted delivered rxAdvanced
     grant plain.grant grantNumber holdsDescriptor startWritten afterSteps
-at-start =
-    let b = unpolledStart in
-    record {
-      ring = refl;
-      polling = refl;
-      needs = record {
-        receiving = refl;
-        place = refl;
-        sending = refl;
-        returned = none-granted b refl;
-        obeys = (coming b 1 first _ frame, (granting b 1 first _ first refl, (coming b 1 first _ frame, tt)));
-        passes = refl;
-        lost = refl;
-        left = λ e. omega arith;
-        answer = refl;
-        noClaim = fails b [] refl (λ e. omega arith) refl;
-      };
-    }
+both = (
+  (let b = unpolledStart in
+      record {
+        ring = refl;
+        polling = refl;
+        needs = record {
+          receiving = refl;
+          place = refl;
+          sending = refl;
+          returned = none-granted b refl;
+          obeys = (coming b 1 first _ frame, (granting b 1 first _ first refl, (coming b 1 first _ frame, tt)));
+          passes = refl;
+          lost = refl;
+          left = λ e. omega arith;
+          answer = refl;
+          noClaim = fails b [] refl (λ e. omega arith) refl;
+        };
+      }),
+  (let b = unpolledRing in
+      record {
+        ring = refl;
+        withBit = refl;
+        polling = refl;
+        needs = record {
+          receiving = refl;
+          place = refl;
+          sending = refl;
+          returned = none-granted b refl;
+          obeys = (
+            granting b 1 first _ first refl,
+            (
+              coming b 1 first _ frame,
+              (coming b 1 first _ frame, (granting b 1 first _ first refl, (coming b 1 first _ frame, tt))),
+            ),
+          );
+          passes = refl;
+          lost = refl;
+          left = λ e. omega arith;
+          answer = refl;
+          noClaim = fails b (grants ∷ arrives ∷ []) refl (λ e. omega arith) refl;
+        };
+      }),
+)
+
+pub at-start : AtStart
+at-start = both .0
 
 pub in-ring : InRing
-unfolding
-    soundRing ringFrom apartFromRest regionsApart soundDescriptor lent aligned inWindow apart placeOf polls follow
-    count nextEnabled start nextWord next packetStatus granted withPacketStatus bufferFault bytesFault word wordBytes store
-    frame frameNumber lengthAllowed accepts checkRight checkSequence checkNumber checkBits registerBits remainder generator
-    receive receiving.receive receiveAt receiveNumber chainNumber rxRefused notGranted delivered rxAdvanced
-    grant plain.grant grantNumber holdsDescriptor startWritten afterSteps
-in-ring =
-    let b = unpolledRing in
-    record {
-      ring = refl;
-      withBit = refl;
-      polling = refl;
-      needs = record {
-        receiving = refl;
-        place = refl;
-        sending = refl;
-        returned = none-granted b refl;
-        obeys = (
-          granting b 1 first _ first refl,
-          (
-            coming b 1 first _ frame,
-            (coming b 1 first _ frame, (granting b 1 first _ first refl, (coming b 1 first _ frame, tt))),
-          ),
-        );
-        passes = refl;
-        lost = refl;
-        left = λ e. omega arith;
-        answer = refl;
-        noClaim = fails b (grants ∷ arrives ∷ []) refl (λ e. omega arith) refl;
-      };
-    }
+in-ring = both .1

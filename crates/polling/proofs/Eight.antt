@@ -36,9 +36,9 @@ stops e t = record { runs = sym t; place = refl; polling = refl }
 looks-again : (e : Engine) → e .running ≡ true → e .polling ≡ true → NotGrantedLeaves e e
 looks-again e r t = record { runs = r ∙ sym t; place = refl; polling = refl }
 
-left : (e : Engine) → e .running ≡ true → NotGrantedLeaves e (notGranted e)
+eight-leaves : (e : Engine) → e .running ≡ true → NotGrantedLeaves e (notGranted e)
 unfolding notGranted
-left e r = by-test (NotGrantedLeaves e) (e .polling) _ _ (looks-again e r) (stops e)
+eight-leaves e r = by-test (NotGrantedLeaves e) (e .polling) _ _ (looks-again e r) (stops e)
 
 -- ---- 8 comes from an engine that runs: one that does not answers 11, 9 or 3
 
@@ -79,7 +79,7 @@ module _ (b : Bench) where
       (λ r.
       by-receive (λ o. o .number ≡ 8 → NotGrantedLeaves (receiver b) (o .device .registers .rx)) (b .device) (b .memory) frame
       (λ z. absurd (omega arith)) (λ z. absurd (omega arith)) (λ z. absurd (omega arith)) (λ z. absurd (omega arith)) (λ z. absurd (omega arith))
-      (λ z. absurd (omega arith)) (λ _. left (receiver b) r) (λ z. absurd (omega arith))
+      (λ z. absurd (omega arith)) (λ _. eight-leaves (receiver b) r) (λ z. absurd (omega arith))
       e)
       (λ off. absurd (receives-none (b .device) (b .memory) frame off e))
 
@@ -89,7 +89,7 @@ module _ (b : Bench) where
       (λ r.
       by-send (λ s. s .number ≡ 8 → NotGrantedLeaves (sender b) (s .device .registers .tx)) (b .device) (b .memory) output
       (λ z. absurd (omega arith)) (λ z. absurd (omega arith)) (λ z. absurd (omega arith)) (λ z. absurd (omega arith))
-      (λ _. left (sender b) r) (λ z. absurd (omega arith)) (λ _ _ z. absurd (omega arith))
+      (λ _. eight-leaves (sender b) r) (λ z. absurd (omega arith)) (λ _ _ z. absurd (omega arith))
       e)
       (λ off. absurd (sends-none (b .device) (b .memory) output off e))
 
@@ -103,9 +103,9 @@ abbrev AsPolled : Bench → Type 0
 AsPolled b = sender b .running ≡ sender b .polling
 
 module _ (b : Bench) (output : List ℕ) (allowance : ℕ) (e : call b (stepRun output allowance) .number ≡ 8) where
-  over : ltb 4096 allowance ≡ true → ⊥
+  not-over : ltb 4096 allowance ≡ true → ⊥
   unfolding run
-  over t = let w : _≡_ {A = ℕ} 10 8 = rw t at e in omega arith
+  not-over t = let w : _≡_ {A = ℕ} 10 8 = rw t at e in omega arith
 
   by-steps : SingleSends b output allowance (call b (stepRun output allowance)) → (k : ℕ) → call b (stepRun output allowance) .steps ≡ k
       → AsPolled (call b (stepRun output allowance) .bench)
@@ -121,7 +121,7 @@ module _ (b : Bench) (output : List ℕ) (allowance : ℕ) (e : call b (stepRun 
   run-eight : AsPolled (call b (stepRun output allowance) .bench)
   run-eight =
       by-bool (ltb 4096 allowance)
-      (λ t. absurd (over t))
+      (λ t. absurd (not-over t))
       (λ t. by-steps (single-sends b output allowance (ltb-false 4096 allowance t)) _ refl)
 
 pub after-eight : AfterEight

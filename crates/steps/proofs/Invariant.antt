@@ -15,12 +15,12 @@ use Rattle.steps.proofs.Places.{RingSound}
 
 -- the part of the device that no list changes: window and filter registers are those of the start b, receiving runs, with polling
 -- enabled for its place, and sending does not run
-pub record Fixed (b : Bench) (base₁ window₁ : ℕ) (filter₁ : Filter) (rx polls tx : Bool) : Type 0 where
+pub record Fixed (b : Bench) (base₁ window₁ : ℕ) (filter₁ : Filter) (rx polling₁ tx : Bool) : Type 0 where
   pub base : base₁ ≡ b .device .base
   pub window : window₁ ≡ b .device .window
   pub filter : filter₁ ≡ b .device .registers .filter
   pub receiving : rx ≡ true
-  pub polling : polls ≡ true
+  pub polling : polling₁ ≡ true
   pub sending : tx ≡ false
 
 -- a list that starts from b
