@@ -1,6 +1,7 @@
 """Short days about polling, for the test of the report: whether each engine runs, looks again or stops, and why.
 
-The answers are worked out by hand from documents 01 and 02. A frame or a sent frame is 64 zeros: its bytes say nothing here.
+The answers are those that documents 01 and 02 allow of engines; a bench would refuse some of these frames and sends for other
+reasons. A frame or a sent frame is 64 zeros: its bytes say nothing here.
 """
 ZEROS = '00' * 64
 # sixteen bytes of a frame that are a granted descriptor, its buffer at 400, its next at 200 with polling
@@ -11,6 +12,11 @@ TAKEN, LOST, NOT_RUNNING = ((f'frame {ZEROS}', f'frame {number}') for number in 
 SENT, SENT_TOLD = ('send 1518', f'send 0 {ZEROS}'), 'sent 64 bytes, to 00-00-00-00-00-00, 0000'
 SEND_START, NOT_SENT, SEND_NOT_RUNNING = ('write 30 5', 'write 0'), ('send 1518', 'send 8 -'), ('send 1518', 'send 3 -')
 GOES_ON = 'goes on: its place and polling stay'
+
+
+def texts(lines):
+    """The script of some lines, and the output of their answers."""
+    return [''.join(f'{line[part]}\n' for line in lines) for part in (0, 1)]
 
 
 def put(at, following, linked=True, start=0x400):
@@ -118,8 +124,16 @@ DAYS = {
         poke(0x18, 0),
         ('ring 2 10', 'ring no', 'without polling: the next word of descriptor 2 of the ring, and 1 more'),
         ('ring 4 10', 'ring no', 'without polling: the next word of descriptor 2 of the ring, and 1 more'),
-        # such a ring is not in the window
+        # such a ring is not in the window, or no ring whatever its next words are
         ('ring 1 1000', 'ring no'),
+        ('ring 1 ff4', 'ring no'),
+        ('ring 1 12', 'ring no'),
+        ('ring 0 10', 'ring no'),
+        ('ring 33 10', 'ring no'),
+        ('lend 60', 'lend'),
+        ('ring 2 10', 'ring no'),
+        ('lend 4096', 'lend'),
+        ('ring 2 10', 'ring no', 'without polling: the next word of descriptor 2 of the ring, and 1 more'),
         ('new 0 60', 'new 1'),
         ('ring 1 0', 'ring no'),
     ],
@@ -241,13 +255,12 @@ BETWEEN = [
 
 def around(line, answer):
     """The script and the output around such a line, the lost frame on line 5."""
-    lines = [NEW, write(0x1c, 1), START, (line, answer), LOST]
-    return [''.join(f'{line[part]}\n' for line in lines) for part in (0, 1)]
+    return texts([NEW, write(0x1c, 1), START, (line, answer), LOST])
 
 
 def fault(name, wanted, *lines):
     """As the others of the report's test."""
-    return name, *(''.join(f'{line[part]}\n' for line in lines) for part in (0, 1)), wanted
+    return name, *texts(lines), wanted
 
 
 # answers that the calls before do not allow, most of them as of a console to which polling is nothing

@@ -33,7 +33,7 @@ FRAMES = [8, 0, 0, 6, 6, 5, 4, 0, 0, 0, 0, 0, 8, 0, 0, 6, 8, 3, 0, 0, 8, 0, 11]
 BURST = [0, 0, 0, 16, 8]
 BURST_MARKS = ['delivered', 'delivered', 'refused', 'lost']
 # the ring's fill: three grants, three frames, four grants, four frames, one grant, one frame, two grants, two frames of
-# the burst, one grant and one frame of the group, and three of one grant and one frame each where polling is off
+# the burst, one grant and one frame of the group, and three of one grant and one frame each in the passages about polling
 FILL = [0, 1, 2, 3, 2, 1, 0, 1, 2, 3, 4, 3, 2, 1, 0, 1, 0, 1, 2, 1, 0, 1, 0, 1, 0, 1, 0, 1, 0]
 # the broadcast has 14 + 77 + 4 bytes, each result 64; the sends have 64, 64 and 66 + 4
 TOTALS = [
@@ -96,7 +96,7 @@ POLLED = [
 
 RESULT = '02000000000102000000001188b5' + b'1042;41,7\n'.hex() + '00' * 36
 FIRST, SECOND = '00460000400000001100000000000100', '00460000400000000100000000000000'
-# a part of a day, before which nothing is known; in an order in which a bench could answer so
+# a part of a day, before which nothing is known; in an order that the engines allow
 LINES = [
     ('lend 60', 'lend', 'lent from now on: 60 bytes'),
     ('read 8', 'read 0 00008020', 'ISR (interrupt status) is 00008020: RX_CURR_DONE, PACKET_LOST'),
@@ -292,7 +292,7 @@ class Tests:
     def polling(self):
         """What becomes of the engines is told under each call, and why; where it is not known, nothing is."""
         for name, lines in polling.DAYS.items():
-            script, output = (''.join(f'{line[part]}\n' for line in lines) for part in (0, 1))
+            script, output = polling.texts(lines)
             status, text = self.report(script, output)
             told = calls(text)
             self.expect(name, status == 0 and len(told) == len(lines), text)
@@ -315,7 +315,7 @@ class Tests:
 
     def bursts(self):
         """A burst is told pair by pair, counted frame by frame, and drawn so within a box."""
-        script, output = (''.join(f'{line[part]}\n' for line in BURSTS) for part in (0, 1))
+        script, output = polling.texts(BURSTS)
         picture = self.folder / 'bursts.svg'
         status, text = self.report(script, output, '--svg', picture)
         said, sums = re.sub(r'\n +->', ' ->', text).split('\nWhat the day comes to\n')

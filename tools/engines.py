@@ -12,6 +12,8 @@ BY_RUNNING = (0, 4, 5, 6, 7, 8, 12)
 NOT_RUNNING, NOT_GRANTED, NEXT_WHILE_RUNNING = 3, 8, 15
 # refusals that stop their engine, whatever its place
 STOPPING = (7, 12)
+# a sound ring has no more descriptors
+RING_MOST = 32
 
 
 class Contradiction(Exception):
@@ -24,9 +26,9 @@ def steps_sent(number, steps):
 
 
 class Engine:
-    def __init__(self, name, register, again):
-        # its next-descriptor register; what it waits for where polling is on
-        self.name, self.register, self.again = name, register, again
+    def __init__(self, name, register, awaits):
+        # its next-descriptor register; at what it looks again where polling is on
+        self.name, self.register, self.awaits = name, register, awaits
         self.forget()
 
     def forget(self):
@@ -123,7 +125,7 @@ class Engine:
         word = self.register if self.by is None else f'the next word of {named(self.by)}'
         if not self.polling:
             self.stop(at)
-        left = f'looks again at the next {self.again}' if self.polling else 'stops'
+        left = f'looks again at the next {self.awaits}' if self.polling else 'stops'
         return f'polling is {wording.on(self.polling)} for this place, by {word}: {self.name} {left}'
 
     def show(self, runs, place):
@@ -146,6 +148,8 @@ class Engines:
 
     def forget(self):
         self.memory = Memory()
+        # how many bytes are lent
+        self.lent = None
         self.receiving.forget()
         self.sending.forget()
 
@@ -187,8 +191,13 @@ class Engines:
 
     def follow_new(self, at, base, length, number):
         self.memory = Memory(0, 0) if number else Memory(base, length, 0)
+        self.lent = self.memory.length()
         self.receiving.reset()
         self.sending.reset()
+        return []
+
+    def follow_lend(self, at, length):
+        self.lent = length
         return []
 
     def follow_write(self, at, offset, value, number):
@@ -229,7 +238,9 @@ class Engines:
         return [self.send(number, at) if sent < steps else '']
 
     def follow_ring(self, at, number, first, verdict):
-        """A ring is sound only with polling in every next word."""
+        """A ring is sound only with polling in every next word. Where it is none whatever these are, nothing is said of them."""
+        if not 1 <= number <= RING_MOST or first % 4 or self.lent not in (None, self.memory.length()):
+            return []
         words = [(address, self.memory.word(address + wording.NEXT_WORD)) for address in self.memory.chain(first, number)]
         without = [address for address, word in words if word is not None and not wording.polls(word)]
         if not without:

@@ -9,6 +9,9 @@ class Memory:
         self.base, self.end, self.rest = base, base + length, rest
         self.bytes = {}
 
+    def length(self):
+        return self.end - self.base
+
     def put(self, address, data):
         self.bytes.update(enumerate(data, address))
 
@@ -30,10 +33,13 @@ class Memory:
         return [None if place is None else self.word(place + k) for k in (0, 4, 8)]
 
     def chain(self, first, number):
-        """The addresses of so many descriptors in a row, by their next words, as far as these are known and lead on."""
+        """The addresses of so many descriptors in a row, by their next words, as far as these are known, lead on and lie in the
+        window."""
         addresses, place = [], first
-        while len(addresses) < number and place is not None and place not in addresses:
+        while len(addresses) < number and place not in addresses and self.base <= place <= self.end - wording.DESCRIPTOR:
             addresses.append(place)
             following = self.word(place + wording.NEXT_WORD)
-            place = None if following is None else wording.address(following)
+            if following is None:
+                break
+            place = wording.address(following)
         return addresses

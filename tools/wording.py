@@ -75,8 +75,8 @@ MODES = {MULTICAST_HASH: 'multicast by hash', 0b101: 'all-multicast on'}
 DMA_EN, START_FETCH, NEXT_ENABLE, VALID = 1 << 0, 1 << 2, 1 << 14, 1 << 16
 # next-polling enable, of a next-descriptor register and of a descriptor's next word
 NPOL_EN = 1 << 0
-# words of a descriptor, by their first byte
-NEXT_WORD, STATUS_WORD = 8, 12
+# how many bytes a descriptor has; words of it, by their first byte
+DESCRIPTOR, NEXT_WORD, STATUS_WORD = 16, 8, 12
 BROADCAST = b'\xff' * 6
 LONGEST_TEXT = 52
 
