@@ -27,13 +27,16 @@ impl Ungranted {
         }
     }
 
-    /// Every 8 that a list of events meets on a bench, lent this memory and output.
+    /// Every 8 that a list of events meets on a new bench of this window, lent this memory and
+    /// output.
     pub fn in_events(
+        base: u32,
+        length: u64,
         list: &[u8],
-        mut bench: Bench,
         mut memory: Vec<u8>,
         mut output: Vec<u8>,
     ) -> Vec<Ungranted> {
+        let (mut bench, _) = Bench::new(base, length);
         let mut met = Vec::new();
         for event in events(list) {
             let answer = event.call(&mut bench, &mut memory, &mut output);
@@ -97,9 +100,8 @@ mod tests {
             write(0x10, 5),
             frame,
         ];
-        let (bench, _) = Bench::new(0, 64);
         let list = Event::list(&list);
-        let met = Ungranted::in_events(&list, bench, vec![0; 64], vec![0; 1_518]);
+        let met = Ungranted::in_events(0, 64, &list, vec![0; 64], vec![0; 1_518]);
         let kind = |side, polling| Ungranted { side, polling };
         let wanted = [
             kind(Side::Receiving, true),

@@ -1,7 +1,6 @@
 //! The generators make what they say.
 
 use super::*;
-use crate::device::Bench;
 use crate::random::Random;
 use crate::trace;
 use crate::ungranted::Ungranted;
@@ -40,9 +39,9 @@ fn good_traces_meet_every_kind_of_8() {
         let tape = good(&mut random);
         let content = trace::content(&tape.bytes).expect("a good trace has no bad block");
         let Header { base, length } = content.header;
-        let (bench, _) = Bench::new(base, length.into());
         let (list, output) = (content.events, vec![0; 1_518]);
-        met.extend(Ungranted::in_events(&list, bench, tape.image, output));
+        let kinds = Ungranted::in_events(base, length.into(), &list, tape.image, output);
+        met.extend(kinds);
     }
     for kind in Ungranted::all() {
         let count = met.iter().filter(|other| **other == kind).count();

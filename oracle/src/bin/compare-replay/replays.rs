@@ -2,7 +2,6 @@
 
 use crate::compare::{Comparison, Start};
 use crate::expected;
-use oracle::device::Bench;
 use oracle::files::{Contents, Entry};
 use oracle::hex;
 use oracle::programs::replay::MEMORY_MOST;
@@ -80,9 +79,9 @@ fn ungranted(trace: &[u8], memory: &[u8]) -> Vec<Ungranted> {
         return Vec::new();
     };
     let Header { base, length } = content.header;
-    let (bench, _) = Bench::new(base, length.into());
     // The program lends each send as much as any needs.
-    Ungranted::in_events(&content.events, bench, memory.to_vec(), vec![0; 1_518])
+    let (memory, output) = (memory.to_vec(), vec![0; 1_518]);
+    Ungranted::in_events(base, length.into(), &content.events, memory, output)
 }
 
 /// Replays a trace with a memory that is not there: that is told, whatever the trace is.

@@ -2,7 +2,7 @@
 
 use crate::difference::{self, BEFORE};
 use crate::{expected, found, library};
-use oracle::device::{Bench, Window};
+use oracle::device::Window;
 use oracle::tally::Tally;
 use oracle::tapes::{Lent, List, Tape};
 use oracle::trace::{self, block, Header, Reading, BLOCKS_MOST};
@@ -136,9 +136,9 @@ impl Comparison {
 
     /// Each 8 of a replay by its kind.
     fn ungranted(&mut self, list: &[u8], window: Window, lent: &Lent) {
-        let (bench, _) = Bench::new(window.base as u32, window.length);
+        let Window { base, length } = window;
         let (memory, output) = (lent.memory.clone(), lent.output.clone());
-        for kind in Ungranted::in_events(list, bench, memory, output) {
+        for kind in Ungranted::in_events(base as u32, length, list, memory, output) {
             self.tally.met(expected::ungranted_name(kind));
         }
     }

@@ -15,7 +15,8 @@ pub const IN_ONE_WORD: &str = "no polling in one next word: 3 behind a loss and 
 /// Other steps than frames are no grants here.
 const NO_GRANTS: usize = 0;
 
-/// Makes one list from a start of the claims, and from that start with one polling bit missing.
+/// Makes one list from a start of the claims, and one by the same choices from that start with one
+/// polling bit missing.
 pub fn hold(seed: u64, tally: &mut Tally) -> Result<(), String> {
     let random = &mut Random::new(!seed);
     let start = Start::new(random)?;
@@ -32,8 +33,9 @@ pub fn hold(seed: u64, tally: &mut Tally) -> Result<(), String> {
         if lacking.fault() != Some(fault) {
             return Err(format!("{kind}: that is not what the start lacks"));
         }
-        let with = last(&start, deliveries, random)?;
-        let without = last(&lacking, deliveries, random)?;
+        let choices = random.draw();
+        let with = last(&start, deliveries, &mut Random::new(choices))?;
+        let without = last(&lacking, deliveries, &mut Random::new(choices))?;
         if (with, without) != ((DONE, true), (NOT_RUNNING, false)) {
             return Err(format!(
                 "{kind}: with polling {with:?}, without {without:?}"

@@ -1,6 +1,8 @@
 //! What comes behind a number 8: an engine that stopped by it answers 3 until it is started anew, and
 //! one that did not takes what was granted meanwhile.
 
+use crate::console::Call;
+use crate::device::registers::DMA_ENABLE;
 use crate::device::Bench;
 use crate::numbers::{DONE, NOT_GRANTED, NOT_RUNNING};
 use crate::side::Side;
@@ -44,6 +46,21 @@ pub struct Watch {
 }
 
 impl Watch {
+    /// Forgets an 8 behind which DMA enable was cleared: that stops its engine, whatever the 8 did.
+    pub fn stopped(&mut self, line: &[u8], answer: &str) {
+        if answer != "write 0" {
+            return;
+        }
+        let Some(Call::Write { offset, value }) = Call::parse(line) else {
+            return;
+        };
+        for side in Side::BOTH {
+            if side.start() == offset && value & DMA_ENABLE == 0 {
+                self.left[side as usize] = Left::Nothing;
+            }
+        }
+    }
+
     /// Counts the answers of one engine to a line, and what else the line did to both.
     pub fn answered(&mut self, tally: &mut Tally, side: Side, numbers: &[u32], bench: &Bench) {
         let left = &mut self.left[side as usize];

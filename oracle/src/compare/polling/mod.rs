@@ -58,6 +58,7 @@ impl Watch {
             tally.met(kind.to_string());
             self.slips.lost(tally, kind, console);
         }
+        self.again.stopped(line, answer);
         self.again.answered(tally, side, &numbers, &console.bench);
         rings::count(tally, line, answer, console);
     }

@@ -81,6 +81,26 @@ fn what_comes_behind() {
 }
 
 #[test]
+fn behind_a_cleared_dma_enable_an_8_tells_nothing() {
+    let frame = format!("frame {}\n", frame());
+    let stopped = format!("{}write 1c 10\nwrite 10 5\n{frame}", window([0; 3]));
+    for (between, wanted) in [
+        ("", (1, 0)),
+        ("write 10 1\n", (1, 0)),
+        ("write 30 0\n", (1, 0)),
+        ("write 10 0\n", (0, 0)),
+        ("write 10 4\n", (0, 0)),
+        ("write 10 5\n", (0, 1)),
+        ("write 10 0\nwrite 10 5\n", (0, 0)),
+    ] {
+        let tally = counted(&format!("{stopped}{between}{frame}"));
+        let behind = tally.count("3 behind an 8 that stopped receiving");
+        let started = tally.count("start behind an 8 that stopped receiving");
+        assert_eq!((behind, started), wanted, "{between}");
+    }
+}
+
+#[test]
 fn slips_by_the_bit_that_a_wrong_model_would_read() {
     // Led to 10 by the first next word; the register and the word there have the other bit.
     let lines = "write 3c 1\nwrite 30 5\nsend 1518\nsend 1518\n";

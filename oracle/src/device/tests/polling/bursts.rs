@@ -8,7 +8,7 @@ use crate::device::Pair;
 fn the_frames_behind_a_stop_are_answered_3() {
     for bits in LOW_BITS {
         let mut trial = two(bits, 0, [GRANTED, 0]);
-        Side::Receiving.start_by(&mut trial, !bits & 3);
+        trial.start_by(Side::Receiving, !bits & 3);
         let pairs = [Pair {
             start: 0,
             length: 64,

@@ -5,17 +5,9 @@ mod number_8;
 mod places;
 mod step_runs;
 
-use super::{frame, Trial, GRANTED, NEXT_ENABLE, OWN, RX_NEXT, RX_START, TX_NEXT, TX_START};
+use super::{frame, Trial, GRANTED, NEXT_ENABLE, OWN};
 use crate::device::Engine;
-
-/// The engine that a test is about; each rule is tested on both.
-#[derive(Clone, Copy, Debug)]
-enum Side {
-    Receiving,
-    Sending,
-}
-
-const BOTH: [Side; 2] = [Side::Receiving, Side::Sending];
+use crate::side::Side;
 
 /// Every pair of low bits.
 const LOW_BITS: [u32; 4] = [0, 1, 2, 3];
@@ -43,46 +35,26 @@ fn engine(running: bool, place: u32, polling: bool) -> Engine {
     }
 }
 
-impl Side {
-    fn start(self) -> u32 {
-        match self {
-            Side::Receiving => RX_START,
-            Side::Sending => TX_START,
-        }
+/// The engine that a test is not about.
+fn other(side: Side) -> Side {
+    match side {
+        Side::Receiving => Side::Sending,
+        Side::Sending => Side::Receiving,
     }
+}
 
-    fn next(self) -> u32 {
-        match self {
-            Side::Receiving => RX_NEXT,
-            Side::Sending => TX_NEXT,
-        }
-    }
-
-    fn of(self, trial: &Trial) -> Engine {
-        match self {
-            Side::Receiving => trial.bench.receiver,
-            Side::Sending => trial.bench.sender,
-        }
-    }
-
-    fn other(self, trial: &Trial) -> Engine {
-        match self {
-            Side::Receiving => trial.bench.sender,
-            Side::Sending => trial.bench.receiver,
-        }
-    }
-
-    /// Starts the engine by this word of its next-descriptor register.
-    fn start_by(self, trial: &mut Trial, word: u32) {
-        assert_eq!(trial.bench.write(self.next(), word), 0);
-        assert_eq!(trial.bench.write(self.start(), 5), 0);
+impl Trial {
+    /// Starts an engine by this word of its next-descriptor register.
+    fn start_by(&mut self, side: Side, word: u32) {
+        assert_eq!(self.bench.write(side.next(), word), 0);
+        assert_eq!(self.bench.write(side.start(), 5), 0);
     }
 
     /// A frame to the station, or a send: the number.
-    fn call(self, trial: &mut Trial) -> u32 {
-        match self {
-            Side::Receiving => trial.receive(&frame(OWN, 64)),
-            Side::Sending => trial.send().0,
+    fn call(&mut self, side: Side) -> u32 {
+        match side {
+            Side::Receiving => self.receive(&frame(OWN, 64)),
+            Side::Sending => self.send().0,
         }
     }
 }

@@ -1,7 +1,7 @@
 //! Number 8: with the flag the engine looks again, without it it stops.
 
 use super::super::{frame, Trial, OWN, POLLING, RESERVED, RESET_STATUS};
-use super::{engine, polls, two, Side, BOTH, GRANTED, LOW_BITS};
+use super::{engine, other, polls, two, Side, GRANTED, LOW_BITS};
 
 /// PACKET_LOST on receiving, nothing on sending, whether the engine stops or not.
 fn status_after(side: Side) -> u32 {
@@ -14,138 +14,139 @@ fn status_after(side: Side) -> u32 {
 /// Nothing granted, the engine started at 0 by a word with these low bits.
 fn returned(side: Side, bits: u32) -> Trial {
     let mut trial = two(!bits & 3, !bits & 3, [0; 2]);
-    side.start_by(&mut trial, bits);
+    trial.start_by(side, bits);
     trial
 }
 
 #[test]
 fn with_polling_the_engine_looks_again() {
-    for side in BOTH {
+    for side in Side::BOTH {
         let mut trial = returned(side, POLLING);
         let before = trial.memory.clone();
         for _ in 0..3 {
-            assert_eq!(side.call(&mut trial), 8);
-            assert_eq!(side.of(&trial), engine(true, 0, true));
+            assert_eq!(trial.call(side), 8);
+            assert_eq!(side.of(&trial.bench), engine(true, 0, true));
         }
         assert_eq!(trial.memory, before);
         assert_eq!(trial.status(), status_after(side));
         assert_eq!(trial.bench.grant(&mut trial.memory, 0), 0);
-        assert_eq!(side.call(&mut trial), 0);
-        assert_eq!(side.of(&trial).place, 16);
+        assert_eq!(trial.call(side), 0);
+        assert_eq!(side.of(&trial.bench).place, 16);
     }
 }
 
 #[test]
 fn without_polling_it_also_stops() {
-    for side in BOTH {
+    for side in Side::BOTH {
         let mut trial = returned(side, 0);
         let before = trial.memory.clone();
-        assert_eq!(side.call(&mut trial), 8);
+        assert_eq!(trial.call(side), 8);
         // Place and flag stay; neither RX_DONE nor RX_NEXT is raised, nor DMA enable cleared.
-        assert_eq!(side.of(&trial), engine(false, 0, false));
+        assert_eq!(side.of(&trial.bench), engine(false, 0, false));
         assert_eq!(trial.memory, before);
         assert_eq!(trial.status(), status_after(side));
         assert_eq!(trial.bench.read(side.start()), (0, 5));
         assert_eq!(trial.bench.read(side.next()), (0, 0));
         // A grant comes too late.
         assert_eq!(trial.bench.grant(&mut trial.memory, 0), 0);
-        assert_eq!(side.call(&mut trial), 3);
+        assert_eq!(trial.call(side), 3);
         assert_eq!(trial.status(), status_after(side));
         // "An engine that stopped needs a new start write."
         trial.bench.write(side.start(), 5);
-        assert_eq!(side.call(&mut trial), 0);
-        assert_eq!(side.of(&trial).place, 16);
+        assert_eq!(trial.call(side), 0);
+        assert_eq!(side.of(&trial.bench).place, 16);
     }
 }
 
 #[test]
 fn bit_0_decides_at_the_place_of_a_start() {
-    for side in BOTH {
+    for side in Side::BOTH {
         for bits in LOW_BITS {
             let mut trial = returned(side, bits);
-            assert_eq!(side.call(&mut trial), 8);
-            assert_eq!(side.of(&trial), engine(polls(bits), 0, polls(bits)));
+            assert_eq!(trial.call(side), 8);
+            assert_eq!(side.of(&trial.bench), engine(polls(bits), 0, polls(bits)));
         }
     }
 }
 
 #[test]
 fn bit_0_decides_at_the_place_of_a_move() {
-    for side in BOTH {
+    for side in Side::BOTH {
         for bits in LOW_BITS {
             let mut trial = two(bits, !bits & 3, [GRANTED, 0]);
-            side.start_by(&mut trial, !bits & 3);
-            assert_eq!(side.call(&mut trial), 0);
-            assert_eq!(side.call(&mut trial), 8);
-            assert_eq!(side.of(&trial), engine(polls(bits), 16, polls(bits)));
+            trial.start_by(side, !bits & 3);
+            assert_eq!(trial.call(side), 0);
+            assert_eq!(trial.call(side), 8);
+            assert_eq!(side.of(&trial.bench), engine(polls(bits), 16, polls(bits)));
         }
     }
 }
 
 #[test]
 fn later_changes_of_the_memory_do_not_count() {
-    for side in BOTH {
+    for side in Side::BOTH {
         for bits in LOW_BITS {
             let mut trial = two(bits, bits, [GRANTED, 0]);
-            side.start_by(&mut trial, bits);
-            assert_eq!(side.call(&mut trial), 0);
+            trial.start_by(side, bits);
+            assert_eq!(trial.call(side), 0);
             // The word that led here, and the one that would lead on.
             trial.put(8, 16 | !bits & 3);
             trial.put(24, !bits & 3);
-            assert_eq!(side.call(&mut trial), 8);
-            assert_eq!(side.of(&trial), engine(polls(bits), 16, polls(bits)));
+            assert_eq!(trial.call(side), 8);
+            assert_eq!(side.of(&trial.bench), engine(polls(bits), 16, polls(bits)));
         }
     }
 }
 
 #[test]
 fn changes_before_the_move_count() {
-    for side in BOTH {
+    for side in Side::BOTH {
         for bits in LOW_BITS {
             let mut trial = two(bits, bits, [GRANTED, 0]);
-            side.start_by(&mut trial, bits);
+            trial.start_by(side, bits);
             trial.put(8, 16 | !bits & 3);
-            assert_eq!(side.call(&mut trial), 0);
-            assert_eq!(side.call(&mut trial), 8);
-            assert_eq!(side.of(&trial), engine(!polls(bits), 16, !polls(bits)));
+            assert_eq!(trial.call(side), 0);
+            assert_eq!(trial.call(side), 8);
+            let left = engine(!polls(bits), 16, !polls(bits));
+            assert_eq!(side.of(&trial.bench), left);
         }
     }
 }
 
 #[test]
 fn a_stop_and_a_new_start_take_the_register_as_it_stands_then() {
-    for side in BOTH {
+    for side in Side::BOTH {
         let mut trial = returned(side, 0);
-        assert_eq!(side.call(&mut trial), 8);
+        assert_eq!(trial.call(side), 8);
         // Stopped, so that the register can be written.
         assert_eq!(trial.bench.write(side.next(), 16 | POLLING), 0);
-        assert_eq!(side.call(&mut trial), 3);
+        assert_eq!(trial.call(side), 3);
         trial.bench.write(side.start(), 5);
         for _ in 0..2 {
-            assert_eq!(side.call(&mut trial), 8);
-            assert_eq!(side.of(&trial), engine(true, 16, true));
+            assert_eq!(trial.call(side), 8);
+            assert_eq!(side.of(&trial.bench), engine(true, 16, true));
         }
         // Looking again is running.
         assert_eq!(trial.bench.write(side.next(), 0), 15);
         trial.bench.write(side.start(), 0);
         assert_eq!(trial.bench.write(side.next(), RESERVED), 0);
         trial.bench.write(side.start(), 5);
-        assert_eq!(side.call(&mut trial), 8);
-        assert_eq!(side.of(&trial), engine(false, 0, false));
+        assert_eq!(trial.call(side), 8);
+        assert_eq!(side.of(&trial.bench), engine(false, 0, false));
     }
 }
 
 #[test]
 fn the_other_engine_goes_on() {
-    for side in BOTH {
+    for side in Side::BOTH {
         let mut trial = two(0, 0, [0; 2]);
-        Side::Receiving.start_by(&mut trial, 0);
-        Side::Sending.start_by(&mut trial, 0);
-        let other = side.other(&trial);
-        assert_eq!(side.call(&mut trial), 8);
-        assert_eq!(side.of(&trial), engine(false, 0, false));
-        assert_eq!(side.other(&trial), other);
-        assert!(other.running);
+        trial.start_by(Side::Receiving, 0);
+        trial.start_by(Side::Sending, 0);
+        let before = other(side).of(&trial.bench);
+        assert_eq!(trial.call(side), 8);
+        assert_eq!(side.of(&trial.bench), engine(false, 0, false));
+        assert_eq!(other(side).of(&trial.bench), before);
+        assert!(before.running);
     }
 }
 
@@ -153,10 +154,10 @@ fn the_other_engine_goes_on() {
 fn each_engine_has_a_flag_of_its_own() {
     for bits in LOW_BITS {
         let mut trial = two(0, 0, [0; 2]);
-        Side::Receiving.start_by(&mut trial, bits);
-        Side::Sending.start_by(&mut trial, !bits & 3);
-        for side in BOTH {
-            assert_eq!(side.call(&mut trial), 8);
+        trial.start_by(Side::Receiving, bits);
+        trial.start_by(Side::Sending, !bits & 3);
+        for side in Side::BOTH {
+            assert_eq!(trial.call(side), 8);
         }
         assert_eq!(trial.bench.receiver.running, polls(bits));
         assert_eq!(trial.bench.sender.running, !polls(bits));

@@ -20,7 +20,7 @@ fn run(trial: &mut super::Trial, allowance: u64) -> (u32, u64) {
 fn the_refused_step_is_counted_and_has_stopped_sending() {
     for bits in LOW_BITS {
         let mut trial = two(bits, 0, [GRANTED, 0]);
-        Side::Sending.start_by(&mut trial, !bits & 3);
+        trial.start_by(Side::Sending, !bits & 3);
         assert_eq!(run(&mut trial, 9), (8, 2));
         let left = engine(polls(bits), 16, polls(bits));
         assert_eq!(trial.bench.sender, left);
@@ -33,7 +33,7 @@ fn the_refused_step_is_counted_and_has_stopped_sending() {
 #[test]
 fn the_allowance_may_end_before_it() {
     let mut trial = two(0, 0, [GRANTED, 0]);
-    Side::Sending.start_by(&mut trial, 0);
+    trial.start_by(Side::Sending, 0);
     assert_eq!(run(&mut trial, 1), (0, 1));
     assert_eq!(trial.bench.sender, engine(true, 16, false));
     assert_eq!(run(&mut trial, 1), (8, 1));
@@ -45,7 +45,7 @@ fn a_run_equals_that_many_single_sends() {
     for bits in LOW_BITS {
         for status in [[0, 0], [GRANTED, 0], [GRANTED, GRANTED]] {
             let mut at_once = two(bits, !bits & 3, status);
-            Side::Sending.start_by(&mut at_once, bits);
+            at_once.start_by(Side::Sending, bits);
             let mut singly = at_once.clone();
             let (answer, steps) = run(&mut at_once, 4);
             let answers: Vec<u32> = (0..steps).map(|_| singly.send().0).collect();
