@@ -168,7 +168,7 @@ class Day:
         if len(data) == 4 and address - wording.NEXT_WORD in self.descriptors:
             at = self.the_descriptor(address - wording.NEXT_WORD)
             return f'next word of {at}, {wording.leads(wording.word(data, 0))}'
-        if len(data) == 16:
+        if len(data) == wording.DESCRIPTOR:
             self.descriptors.add(address)
             return f'a descriptor, {wording.descriptor(data)}'
         return message(data, 0)
