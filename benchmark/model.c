@@ -31,6 +31,9 @@ enum answer {
     ALREADY_GRANTED = 14,
 };
 
+/* why a frame is taken */
+enum reason { NOT_TAKEN, OWN, BROADCAST, GROUP, BY_RECEIVE_ALL };
+
 /* status bits */
 #define TX_CURR_DONE UINT32_C(0x80000000)
 #define TX_DONE UINT32_C(0x00800000)
@@ -48,6 +51,8 @@ enum answer {
 #define NEXT_ENABLE UINT32_C(0x4000)
 #define NEXT_POLLING UINT32_C(1)
 #define VALID UINT32_C(0x00010000)
+#define MULTICAST_FRAME UINT32_C(0x08000000)
+#define BROADCAST_FRAME UINT32_C(0x10000000)
 
 struct engine {
     uint32_t place;
@@ -156,21 +161,34 @@ static bool hash_accepts(const struct enet *device, const uint8_t *destination)
     return table >> bit & 1;
 }
 
-static bool accepts(const struct enet *device, const uint8_t *frame)
+static enum reason address_rule(const struct enet *device, const uint8_t *frame)
 {
     static const uint8_t broadcast[6] = {0xFF, 0xFF, 0xFF, 0xFF, 0xFF, 0xFF};
     uint32_t mode = device->mcr >> 17 & 7;
     uint8_t station[8];
 
     if (device->mcr >> 31)
-        return true;
+        return BY_RECEIVE_ALL;
     if (memcmp(frame, broadcast, 6) == 0)
-        return true;
+        return BROADCAST;
     if (frame[0] & 1)
-        return mode == 1 ? hash_accepts(device, frame) : mode == 5;
+        return (mode == 1 ? hash_accepts(device, frame) : mode == 5) ? GROUP : NOT_TAKEN;
     store(station, device->mal);
     store(station + 4, device->mah);
-    return memcmp(frame, station, 6) == 0;
+    return memcmp(frame, station, 6) == 0 ? OWN : NOT_TAKEN;
+}
+
+/* The packet status word of a delivery: the length, and the bit of its reason. */
+static uint32_t status(enum reason reason, size_t length)
+{
+    switch (reason) {
+    case BROADCAST:
+        return (uint32_t)length | BROADCAST_FRAME;
+    case GROUP:
+        return (uint32_t)length | MULTICAST_FRAME;
+    default:
+        return (uint32_t)length;
+    }
 }
 
 static bool buffer_fault(const struct enet *device, const uint8_t *descriptor, uint32_t place,
@@ -205,6 +223,7 @@ static enum answer grant(const struct enet *device, uint8_t *memory, size_t memo
 static enum answer receive(struct enet *device, uint8_t *memory, size_t memory_length,
                            const uint8_t *frame, size_t frame_length)
 {
+    enum reason reason;
     uint8_t *descriptor;
 
     if (memory_length != device->window)
@@ -215,7 +234,8 @@ static enum answer receive(struct enet *device, uint8_t *memory, size_t memory_l
         return FRAME_LENGTH;
     if (!check_right(frame, frame_length))
         return FRAME_CHECK;
-    if (!accepts(device, frame))
+    reason = address_rule(device, frame);
+    if (reason == NOT_TAKEN)
         return ADDRESS;
     if (!in_window(device, device->rx.place, DESCRIPTOR)) {
         device->rx.running = false;
@@ -231,7 +251,7 @@ static enum answer receive(struct enet *device, uint8_t *memory, size_t memory_l
         return CHAIN_FAULT;
     }
     memcpy(memory + (load(descriptor + START) - device->base), frame, frame_length);
-    store(descriptor + STATUS, (uint32_t)frame_length);
+    store(descriptor + STATUS, status(reason, frame_length));
     device->isr |= RX_CURR_DONE;
     if (load(descriptor + CONTROL) & NEXT_ENABLE) {
         lead(&device->rx, load(descriptor + NEXT));

@@ -1,6 +1,6 @@
 /*
- * The bench host: says of raw frames whether their check sequence is right and
- * whether the address rule accepts them.
+ * The bench host: says of raw frames whether their check sequence is right, and
+ * whether the address rule accepts them and why.
  *
  *   host [-s STATION] [-a] [-m | -x] [-H HIGH] [-L LOW] [FILE ..]
  *
@@ -16,7 +16,10 @@
  *
  * For each it writes a line such as
  *
- *   good.bin: 64 bytes, check right, accepted
+ *   good.bin: 64 bytes, check right, accepted: own address
+ *
+ * with own address, broadcast, group or receive-all behind accepted, or with
+ * not accepted in place of both.
  *
  * Exit status: 0; 1 where a frame could not be read or the output not written;
  * 2 for a usage error.
@@ -142,6 +145,25 @@ static int read_all(FILE *in, struct bytes *frame)
     }
 }
 
+/* An answer of the address rule in words. */
+static const char *reason(uint32_t answer)
+{
+    switch (answer) {
+    case TOCKFEATHER_NOT_TAKEN:
+        return "not accepted";
+    case TOCKFEATHER_OWN:
+        return "accepted: own address";
+    case TOCKFEATHER_BROADCAST:
+        return "accepted: broadcast";
+    case TOCKFEATHER_GROUP:
+        return "accepted: group";
+    case TOCKFEATHER_RECEIVE_ALL:
+        return "accepted: receive-all";
+    default:
+        return "no answer of the address rule";
+    }
+}
+
 static int report(const char *name, const struct registers *registers, struct bytes *frame)
 {
     int standard = strcmp(name, "-") == 0;
@@ -161,11 +183,9 @@ static int report(const char *name, const struct registers *registers, struct by
         return 0;
     printf("%s: %zu bytes, check %s, %s\n", name, frame->length,
            tockfeather_frame_check(frame->at, frame->length) ? "right" : "wrong",
-           tockfeather_address_rule(frame->at, frame->length, registers->control,
-                                    registers->high, registers->low,
-                                    registers->hash_high, registers->hash_low)
-               ? "accepted"
-               : "not accepted");
+           reason(tockfeather_address_rule(frame->at, frame->length, registers->control,
+                                           registers->high, registers->low,
+                                           registers->hash_high, registers->hash_low)));
     return 1;
 }
 

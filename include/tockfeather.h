@@ -26,8 +26,15 @@ extern "C" {
 uint32_t tockfeather_frame_check(const uint8_t *frame, size_t length);
 
 /*
- * The address rule: 1 where the frame is accepted, else 0. The numbers are the
- * values of the registers
+ * The address rule: why the frame is taken, or 0 where it is not.
+ *
+ *   1  own          TOCKFEATHER_OWN
+ *   2  broadcast    TOCKFEATHER_BROADCAST
+ *   3  group        TOCKFEATHER_GROUP
+ *   4  receive-all  TOCKFEATHER_RECEIVE_ALL
+ *   0  not taken    TOCKFEATHER_NOT_TAKEN
+ *
+ * The numbers handed in are the values of the registers
  *
  *   control    MAC control (ENET_MCR): receive-all is bit 31; bits 19:17 are
  *              the filter mode: 101b selects all-multicast, 001b multicast by
@@ -45,13 +52,17 @@ uint32_t tockfeather_frame_check(const uint8_t *frame, size_t length);
  *
  * Under 6 bytes the answer is 0. Else the first that applies:
  *
- *   receive-all is set                    1
- *   the first six bytes are all FF        1
- *   the lowest bit of the first byte is   all-multicast: 1; multicast by hash:
- *   set                                   the destination's bit in the hash
- *                                         table; any other mode: 0
- *   otherwise                             1 exactly if the first six bytes equal
- *                                         the station address
+ *   receive-all is set                    4
+ *   the first six bytes are all FF        2
+ *   the lowest bit of the first byte is   all-multicast: 3; multicast by hash: 3
+ *   set                                   where the destination's bit in the
+ *                                         hash table is 1, else 0; any other
+ *                                         mode: 0
+ *   otherwise                             1 where the first six bytes equal the
+ *                                         station address, else 0
+ *
+ * So with receive-all set every frame of 6 bytes or more is 4, one to
+ * FF-FF-FF-FF-FF-FF too.
  *
  * A destination's bit in the hash table is found by the IEEE 802.3 check
  * register. It has all ones at the start, takes the first six bytes, the lowest
@@ -64,12 +75,17 @@ uint32_t tockfeather_frame_check(const uint8_t *frame, size_t length);
  *       uint32_t sent = frame[i / 8] >> i % 8 & 1;
  *       r = r << 1 ^ (r >> 31 != sent ? 0x04C11DB7 : 0);
  *   }
- *   uint32_t accepted = (r >> 31 ? hash_high : hash_low) >> (r >> 26 & 31) & 1;
+ *   uint32_t bit = (r >> 31 ? hash_high : hash_low) >> (r >> 26 & 31) & 1;
  *
  * So 01-80-C2-00-00-01 leaves r 0x0ED423F9, which begins 0 00011: bit 3 of
  * hash_low, 0x00000008. 33-33-00-00-00-01 leaves 0xF99BAABA, which begins
  * 1 11110: bit 30 of hash_high, 0x40000000.
  */
+#define TOCKFEATHER_NOT_TAKEN 0
+#define TOCKFEATHER_OWN 1
+#define TOCKFEATHER_BROADCAST 2
+#define TOCKFEATHER_GROUP 3
+#define TOCKFEATHER_RECEIVE_ALL 4
 uint32_t tockfeather_address_rule(const uint8_t *frame, size_t length,
                                   uint32_t control, uint32_t high,
                                   uint32_t low, uint32_t hash_high,

@@ -1,15 +1,15 @@
 """Short days about polling, for the test of the report: whether each engine runs, looks again or stops, and why.
 
 The answers are those that documents 01 and 02 allow of engines; a bench would refuse some of these frames and sends for other
-reasons. A frame or a sent frame is 64 zeros: its bytes say nothing here.
+reasons. A frame or a sent frame is a broadcast of zeros, which every bench takes: its bytes say nothing here.
 """
-ZEROS = '00' * 64
+FRAME = 'ff' * 6 + '00' * 58
 # sixteen bytes of a frame that are a granted descriptor, its buffer at 400, its next at 200 with polling
 DESCRIPTOR = '00460000000400000102000000000100'
 
 NEW, START = ('new 0 4096', 'new 0'), ('write 10 5', 'write 0')
-TAKEN, LOST, NOT_RUNNING = ((f'frame {ZEROS}', f'frame {number}') for number in (0, 8, 3))
-SENT, SENT_TOLD = ('send 1518', f'send 0 {ZEROS}'), 'sent 64 bytes, to 00-00-00-00-00-00, 0000'
+TAKEN, LOST, NOT_RUNNING = ((f'frame {FRAME}', f'frame {number}') for number in (0, 8, 3))
+SENT, SENT_TOLD = ('send 1518', f'send 0 {FRAME}'), 'sent 64 bytes, to FF-FF-FF-FF-FF-FF, 0000'
 SEND_START, NOT_SENT, SEND_NOT_RUNNING = ('write 30 5', 'write 0'), ('send 1518', 'send 8 -'), ('send 1518', 'send 3 -')
 GOES_ON = 'goes on: its place and polling stay'
 
@@ -119,7 +119,7 @@ DAYS = {
         poke(0x8, 0x10),
         ('ring 2 0', 'ring no', 'without polling: the next word of descriptor 1 of the ring'),
         poke(0x1c, 0),
-        (f'burst 4 {ZEROS} 0 64 0 64 0 65 0 64', 'burst 0 0 8 16 3',
+        (f'burst 4 {FRAME} 0 64 0 64 0 65 0 64', 'burst 0 0 8 16 3',
          stops('the next word of descriptor 1 of the ring'), 'receiving is stopped since line 10'),
         poke(0x18, 0),
         ('ring 2 10', 'ring no', 'without polling: the next word of descriptor 2 of the ring, and 1 more'),
@@ -156,7 +156,7 @@ DAYS = {
         ('run 0 8192', 'run 0 0 0 -'),
         ('run 4097 8192', 'run 10 0 0 -'),
         ('send 0', 'send 9 -'),
-        ('run 4 8192', f'run 8 2 64 {ZEROS}', SENT_TOLD, stops('the next word of the descriptor at 00000110', 'sending')),
+        ('run 4 8192', f'run 8 2 64 {FRAME}', SENT_TOLD, stops('the next word of the descriptor at 00000110', 'sending')),
         ('run 4 8192', 'run 3 1 0 -', 'sending is stopped since line 19'),
         ('state', 'state 0 00000000 0 00000120'),
     ],
@@ -170,23 +170,23 @@ DAYS = {
         TAKEN,
         (*NOT_RUNNING, 'receiving is stopped since line 6'),
         (*START, 'receiving starts at 00000100, polling on'),
-        (f'frame {ZEROS}', 'frame 7'),
+        (f'frame {FRAME}', 'frame 7'),
         (*NOT_RUNNING, 'receiving is stopped since line 9'),
         (*SEND_START, 'sending starts at 00000100, polling on'),
         ('send 1518', 'send 12 -'),
         (*SEND_NOT_RUNNING, 'sending is stopped since line 12'),
         (*SEND_START, 'sending starts at 00000100, polling on'),
-        ('run 4 8192', f'run 3 2 64 {ZEROS}', SENT_TOLD, 'sending is stopped since line 15'),
+        ('run 4 8192', f'run 3 2 64 {FRAME}', SENT_TOLD, 'sending is stopped since line 15'),
     ],
     # the second descriptor is what the first frame brought
     'a frame over a descriptor': [
         NEW,
-        put(0, 0x100, start=0x100),
+        put(0, 0x110, start=0x100),
         write(0x1c, 1),
         (*START, 'receiving starts at 00000000, polling on'),
-        (f'frame {DESCRIPTOR}{"00" * 48}', 'frame 0'),
+        (f'frame {"ff" * 16}{DESCRIPTOR}{"00" * 32}', 'frame 0'),
         TAKEN,
-        (*LOST, looks_again('the next word of the descriptor at 00000100')),
+        (*LOST, looks_again('the next word of the descriptor at 00000110')),
         ('state', 'state 1 00000200 0 00000000'),
     ],
     # the next word of the descriptor at 104 is the packet status of that at 100: which bits the device sets there is its own
@@ -269,9 +269,9 @@ FAULTS = [
     fault('sending goes on', 'line 4, answer to "send 1518": 8, yet sending is stopped since line 3',
           NEW, SEND_START, NOT_SENT, NOT_SENT),
     fault('a burst goes on', 'pair 2: 8, yet receiving is stopped since line 3',
-          NEW, START, (f'burst 2 {ZEROS} 0 64 0 64', 'burst 0 8 8')),
+          NEW, START, (f'burst 2 {FRAME} 0 64 0 64', 'burst 0 8 8')),
     fault('a run goes on', '0, yet sending is stopped since line 3',
-          NEW, SEND_START, ('run 2 8192', f'run 0 2 128 {ZEROS}{ZEROS}')),
+          NEW, SEND_START, ('run 2 8192', f'run 0 2 128 {FRAME}{FRAME}')),
     fault('receiving stops', '3, yet receiving runs', NEW, write(0x1c, 1), START, LOST, NOT_RUNNING),
     fault('sending stops', '3, yet sending runs', NEW, write(0x3c, 1), SEND_START, NOT_SENT, SEND_NOT_RUNNING),
     fault('a state that runs', 'line 4, answer to "state": receiving runs, yet receiving is stopped since line 3',

@@ -27,24 +27,42 @@ SVG = '{http://www.w3.org/2000/svg}'
 # ---- the sample day, by hand
 
 # answers to the grants and to the frames, in the script's order
-GRANTS = [0, 0, 0, 14, 13, 0, 0, 0, 0, 0, 0, 0, 0, 0, 0, 0]
-FRAMES = [8, 0, 0, 6, 6, 5, 4, 0, 0, 0, 0, 0, 8, 0, 0, 6, 8, 3, 0, 0, 8, 0, 11]
+GRANTS = [0, 0, 0, 14, 13, 0, 0, 0, 0, 0, 0, 0, 0, 0, 0, 0, 0, 0]
+FRAMES = [8, 0, 0, 6, 6, 5, 4, 0, 0, 0, 0, 0, 8, 0, 0, 6, 0, 0, 8, 3, 0, 0, 8, 0, 11]
+# the frames that come with receive-all set
+TO_ALL = (16, 17)
 # the burst's number, then the answer to each of its pairs, and what the picture shows of them
 BURST = [0, 0, 0, 16, 8]
 BURST_MARKS = ['delivered', 'delivered', 'refused', 'lost']
 # the ring's fill: three grants, three frames, four grants, four frames, one grant, one frame, two grants, two frames of
-# the burst, one grant and one frame of the group, and three of one grant and one frame each in the passages about polling
-FILL = [0, 1, 2, 3, 2, 1, 0, 1, 2, 3, 4, 3, 2, 1, 0, 1, 0, 1, 2, 1, 0, 1, 0, 1, 0, 1, 0, 1, 0]
+# the burst, one grant and one frame of the group, two grants and two frames with receive-all, and three of one grant and
+# one frame each in the passages about polling
+FILL = [0, 1, 2, 3, 2, 1, 0, 1, 2, 3, 4, 3, 2, 1, 0, 1, 0, 1, 2, 1, 0, 1, 0, 1, 2, 1, 0, 1, 0, 1, 0, 1, 0]
+# why each delivered frame was taken: the broadcast, results for the station up to the two of the burst, the group's, two with
+# receive-all, and three more results
+REASONS = ['broadcast', *['own address'] * 9, 'group', 'receive-all', 'receive-all', *['own address'] * 3]
+# the packet status words that are looked at: 95 and 64 bytes, broadcast bit 28, multicast bit 27
+STATUSES = [
+    '5f000010: packet status of descriptor 1 of the ring, returned, length 95, broadcast',
+    '40000000: packet status of descriptor 2 of the ring, returned, length 64',
+    '40000008: packet status of descriptor 3 of the ring, returned, length 64, multicast',
+    '40000000: packet status of descriptor 4 of the ring, returned, length 64',
+    '5f000000: packet status of descriptor 1 of the ring, returned, length 95',
+]
 # the broadcast has 14 + 77 + 4 bytes, each result 64; the sends have 64, 64 and 66 + 4
 TOTALS = [
-    'calls 148',
-    'grants made 14',
+    'calls 160',
+    'grants made 16',
     'grants refused 2',
     '13 1 descriptor not at a multiple of 4 or not all in the window',
     '14 1 descriptor already granted',
     'bursts made 1 4 pairs, 1 outside the store',
     'bursts refused 0',
-    'frames delivered 14 927 bytes',
+    'frames delivered 16 1086 bytes',
+    'own address 12',
+    'broadcast 1',
+    'group 1',
+    'receive-all 2',
     'frames lost 5 320 bytes',
     'frames refused 7',
     '3 1 that engine is not running',
@@ -55,16 +73,17 @@ TOTALS = [
     'frames sent 3 198 bytes',
 ]
 # seven frames are refused, and one pair is outside
-MARKS = {'grants': 14, 'delivered': 14, 'lost': 5, 'refused': 8, 'sent': 2}
+MARKS = {'grants': 16, 'delivered': 16, 'lost': 5, 'refused': 8, 'sent': 2}
 SHOWN = ['1042;41,7', '1043;0,185', '1045;41,700', '1044;38,25', '1046;40,05', '1047;39,9', '1048;42,125', '2017;37,6',
          '3108;40,25', '5012;39,4', '7015;38,1', '7016;36,8', '7017;37,45']
 # what the day says of the hash: the write of its mode and of its bit, the frames of the two groups, the mode set back
 HASHED = [
     'write 400 0002000c -> 0 done: MCR (MAC control): AFM=1, TE, RE; receive-all off, multicast by hash',
     'write 410 00000200 -> 0 done: MCLA (multicast hash low): bit 9 set',
-    'frame (64 bytes, to 03-00-00-00-00-01 (MCLA bit 9), 88B5 "5012;39,4") -> 0 delivered',
+    'frame (64 bytes, to 03-00-00-00-00-01 (MCLA bit 9), 88B5 "5012;39,4") -> 0 delivered: group',
     'frame (64 bytes, to 03-00-00-00-00-02 (MCLA bit 30), 88B5 "6034;38,9") -> 6 refused: address not for this station',
     'show 20000020 -> 0 done: descriptor 3 of the ring holds 60 bytes, to 03-00-00-00-00-01, 88B5 "5012;39,4"',
+    f'peek 2000002c 4 -> {STATUSES[2]}',
     'write 400 0000000c -> 0 done: MCR (MAC control): TE, RE; receive-all off, all-multicast off',
 ]
 # what it says of polling: the engines at each start, and each frame or send that finds a descriptor not granted, or no engine
@@ -77,7 +96,7 @@ POLLED = [
     'receiving stops',
     'receiving starts at 20000030, polling off',
     'polling is off for this place, by RXNDAR: receiving stops',
-    'receiving is stopped since line 150',
+    'receiving is stopped since line 169',
     'receiving starts at 20000030, polling on',
     'without polling: the next word of descriptor 1 of the ring',
     'polling is off for this place, by the next word of descriptor 1 of the ring: receiving stops',
@@ -85,11 +104,11 @@ POLLED = [
     'sending was not started yet',
     'sending starts at 20002000, polling on',
     'polling is on for this place, by TXNDAR: sending looks again at the next send',
-    'sending is stopped since line 211',
-    'sending is stopped since line 211',
+    'sending is stopped since line 230',
+    'sending is stopped since line 230',
     'sending starts at 20002020, polling off',
     'polling is off for this place, by TXNDAR: sending stops',
-    'sending is stopped since line 223',
+    'sending is stopped since line 242',
 ]
 
 # ---- short scripts: each line with its answer, and what the report has to say of it
@@ -156,6 +175,10 @@ LINES = [
     ('peek 0 3', 'peek 343100', '-> "41"'),
     ('peek 0 2', 'peek ff00', '-> ff00'),
     ('peek 0 2', 'peek outside', '-> outside the window'),
+    ('peek c 4', 'peek 00000100', '-> 00000100: packet status of the descriptor at 00000000, granted, length 0'),
+    ('peek c 4', 'peek ee050010', 'packet status of the descriptor at 00000000, returned, length 1518, broadcast'),
+    ('peek c 4', 'peek ff070008', 'returned, length 2047, multicast'),
+    ('peek c 3', 'peek 400000', '-> "@"'),
     ('check', 'check cbf43926', "cbf43926: CRC-32 of the window's bytes"),
     ('state', 'state 0 00000100 0 00000000', 'receiving is stopped, place 00000100; sending is stopped, place 00000000'),
     ('write 10 5', 'write 0', 'START_FETCH, DMA_EN'),
@@ -212,6 +235,38 @@ TO = [
     *((f'{mode << 17:x}', '0180c2000001', '01-80-C2-00-00-01') for mode in (0, 2, 3, 4, 5, 6, 7)),
     ('new', '0180c2000001', '01-80-C2-00-00-01'),
 ]
+
+# ---- why a frame was taken: MAC control, multicast hash high and low, a destination, and the reason, '' for none; the station
+# is 02-00-00-00-00-01, and the rules are those of document 01, the first that applies
+
+WHY = [
+    ('0', '0', '0', '020000000001', 'own address'),
+    ('0', '0', '0', '020000000002', ''),
+    ('0', '0', '0', '010000000002', ''),
+    ('0', '0', '0', 'ffffffffffff', 'broadcast'),
+    ('0', '0', '0', 'fffffffffffe', ''),
+    ('a0000', '0', '0', '0180c2000001', 'group'),
+    ('a0000', '0', '0', 'ffffffffffff', 'broadcast'),
+    ('a0000', '0', '0', '020000000001', 'own address'),
+    ('20000', '0', '8', '0180c2000001', 'group'),
+    ('20000', 'ffffffff', 'fffffff7', '0180c2000001', ''),
+    ('20000', '40000000', '0', '333300000001', 'group'),
+    ('20000', '0', '40000000', '333300000001', ''),
+    ('20000', '0', '0', 'ffffffffffff', 'broadcast'),
+    ('20000', 'ffffffff', 'ffffffff', '020000000002', ''),
+    ('80000000', '0', '0', '020000000001', 'receive-all'),
+    ('80000000', '0', '0', '020000000002', 'receive-all'),
+    ('80000000', '0', '0', 'ffffffffffff', 'receive-all'),
+    ('800a0000', '0', '0', '0180c2000001', 'receive-all'),
+    ('80020000', '0', '8', '0180c2000001', 'receive-all'),
+]
+
+
+def why(control, high, low, to):
+    """A bench that runs with these registers, and a frame as it is given to it."""
+    lines = ['new 0 4096', 'write 408 2', 'write 404 100', f'write 400 {control}', f'write 40c {high}', f'write 410 {low}']
+    return ''.join(f'{line}\n' for line in lines), 'new 0\n' + 'write 0\n' * 5, to + RESULT[12:] + '00000000'
+
 
 # name, script, output, what the report has to say; each ends with status 1
 FAULTS = [
@@ -350,6 +405,28 @@ class Tests:
         given = re.findall(r', to (.*), 88B5', text)
         self.expect('bits of the hash', status == 0 and given == wanted, text)
 
+    def reasons(self):
+        """The reason of a delivered frame is told, of a pair too, and an answer that the registers do not allow is a fault."""
+        for control, high, low, to, reason in WHY:
+            script, output, data = why(control, high, low, to)
+            # the chain ends at its first descriptor, so receiving is started anew
+            script += f'write 10 5\nframe {data}\nwrite 10 5\nburst 1 {data} 0 64\n'
+            for number in (0, 6, 8):
+                status, text = self.report(script, f'{output}write 0\nframe {number}\nwrite 0\nburst 0 {number}\n')
+                title = f'{to}, {control}, {high}, {low}: {number}'
+                if (number == 6) == (reason == ''):
+                    told = [line for line in text.splitlines() if 'delivered: ' in line and 'pairs' not in line]
+                    wanted = [f'-> 0 delivered: {reason}'] * 2 if number == 0 else []
+                    self.expect(title, status == 0 and len(told) == len(wanted)
+                                and all(line.endswith(words) for line, words in zip(told, wanted)), text)
+                else:
+                    wanted = f'6, yet the frame is taken: {reason}' if reason else f'{number}, yet no address rule takes the frame'
+                    self.expect(title, status == 1 and text.count(wanted) == 1 and f'"frame {data[:34]}..": {wanted}' in text, text)
+        # behind a fault the registers are not known, so the pair is tried by itself
+        script, output, data = why('0', '0', '0', '020000000002')
+        status, text = self.report(f'{script}write 10 5\nburst 2 {data} 0 63 0 64\n', f'{output}write 0\nburst 0 4 0\n')
+        self.expect('a pair for another station delivered', status == 1 and 'pair 2: 0, yet no address rule takes the frame' in text, text)
+
     def faults(self):
         for name, script, output, wanted in FAULTS + polling.FAULTS:
             status, text = self.report(script, output, '--svg', self.folder / 'fault.svg')
@@ -363,7 +440,8 @@ class Tests:
         script = DAY.read_text()
         frames = [bytes.fromhex(line.split()[1]) for line in script.splitlines() if line.startswith('frame ')]
         self.expect("the day's frames are what they are meant to be",
-                    [refusal(frame) for frame in frames] == [0 if number in (3, 8, 11) else number for number in FRAMES])
+                    [refusal(frame, at in TO_ALL) for at, frame in enumerate(frames)]
+                    == [0 if number in (3, 8, 11) else number for number in FRAMES])
         pairs = [found(*line.split()[2:]) for line in script.splitlines() if line.startswith('burst ')]
         self.expect("the burst's frames are what they are meant to be",
                     pairs == [[0 if number == 8 else number for number in BURST[1:]]], pairs)
@@ -380,6 +458,10 @@ class Tests:
         for wanted in TOTALS:
             self.expect(f'the day: {wanted}', wanted in rows(text), text)
         told = [re.sub(r'^\d+ ', '', row) for row in rows(re.sub(r'\n +->', ' ->', text))]
+        given = [row.split(' -> 0 delivered')[1] for row in told if ' -> 0 delivered' in row]
+        self.expect('reasons of the day', given == [f': {reason}' for reason in REASONS], given)
+        given = [row.split(' -> ')[1] for row in told if ': packet status of ' in row]
+        self.expect('packet status words of the day', given == STATUSES, given)
         at = told.index(HASHED[0]) if HASHED[0] in told else 0
         self.expect('the hash of the day', told[at:at + len(HASHED)] == HASHED, text)
         given = [row for lines in calls(text).values() for row in lines[1:] if not row.startswith(('pair ', 'sent '))]
@@ -443,13 +525,13 @@ def fill(root, most):
     return [(first - y) / one for y in [first] + others]
 
 
-def refusal(frame):
+def refusal(frame, to_all=False):
     """The first of 4, 5 and 6 that a frame meets on the sample day, or 0."""
     if not 64 <= len(frame) <= 1518:
         return 4
     if zlib.crc32(frame[:-4]) != int.from_bytes(frame[-4:], 'little'):
         return 5
-    return 0 if frame[:6] in (STATION, BROADCAST, GROUP) else 6
+    return 0 if to_all or frame[:6] in (STATION, BROADCAST, GROUP) else 6
 
 
 def found(store, *numbers):
@@ -481,6 +563,7 @@ def main(program):
         tests.headings()
         tests.bursts()
         tests.hashes()
+        tests.reasons()
         tests.faults()
         tests.day(str(pathlib.Path(program).resolve()))
     print(f'report: {tests.passed} passed, {tests.failed} failed')

@@ -20,6 +20,14 @@ class Contradiction(Exception):
     """An answer that the calls before it do not allow."""
 
 
+def in_pair(k, follow, *frame):
+    """What becomes of the frame of a burst's kth pair, which a contradiction names."""
+    try:
+        return follow(*frame)
+    except Contradiction as contradiction:
+        raise Contradiction(f'pair {k}: {contradiction}') from None
+
+
 def steps_sent(number, steps):
     """How many frames a step run sent: the last step is the one that did not, where there is such."""
     return steps - 1 if number and steps else steps
@@ -219,14 +227,8 @@ class Engines:
         return [self.receive(data, number, at)]
 
     def follow_burst(self, at, room, store, places, number, answers):
-        return [self.pair(k, store[start:start + length], answer, at)
+        return [in_pair(k, self.receive, store[start:start + length], answer, at)
                 for k, ((start, length), answer) in enumerate(zip(places, answers), 1) if number == 0]
-
-    def pair(self, k, frame, number, at):
-        try:
-            return self.receive(frame, number, at)
-        except Contradiction as contradiction:
-            raise Contradiction(f'pair {k}: {contradiction}') from None
 
     def follow_send(self, at, room, number, data):
         return [self.send(number, at)]

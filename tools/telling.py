@@ -3,6 +3,7 @@ import dataclasses
 import zlib
 
 import engines
+import filtering
 import pairing
 import wording
 from pairing import Fault
@@ -44,6 +45,8 @@ class Totals:
     outside: int = 0
     delivered: int = 0
     delivered_bytes: int = 0
+    # by the reason for which they were taken, where that is known
+    reasons: dict = dataclasses.field(default_factory=dict)
     lost: int = 0
     lost_bytes: int = 0
     sent: int = 0
@@ -53,8 +56,8 @@ class Totals:
     grants_refused: dict = dataclasses.field(default_factory=dict)
 
 
-def add(counts, number):
-    counts[number] = counts.get(number, 0) + 1
+def add(counts, kind):
+    counts[kind] = counts.get(kind, 0) + 1
 
 
 def closed(data, n):
@@ -117,38 +120,46 @@ class Day:
     def __init__(self, script, output):
         self.totals = Totals()
         self.engines = engines.Engines(self.the_descriptor)
+        self.filter = filtering.Filter()
         self.forget()
         self.entries = [self.told(entry) for entry in pairing.entries(script, output)]
         self.calls = [entry for entry in self.entries if isinstance(entry, Told)]
         self.faults = [entry for entry in self.entries if isinstance(entry, Fault)]
 
     def forget(self):
-        """A new bench has no ring yet, and MAC control is 0."""
+        """A new bench has no ring yet."""
         # addresses: those of the ring last found sound, and those written as descriptors
         self.ring, self.descriptors = [], set()
         self.fill = 0
-        self.control = 0
 
     def told(self, entry):
         if isinstance(entry, Fault) and entry.changed:
-            self.engines.forget()
+            self.lose_track()
         if not isinstance(entry, pairing.Call):
             return entry
-        wrong, followed = odd(entry), []
+        wrong, followed, reasons = odd(entry), [], []
         try:
-            followed = [] if wrong else self.engines.follow(entry)
+            if not wrong:
+                reasons, followed = self.filter.follow(entry), self.engines.follow(entry)
         except engines.Contradiction as contradiction:
             wrong = str(contradiction)
         if wrong:
-            self.engines.forget()
+            self.lose_track()
             return Fault(f'line {entry.line.at}, answer to {pairing.quoted(entry.line.text)}: {wrong}')
         told = Told(entry.line.at, entry.line.text)
         getattr(self, f'tell_{entry.name}')(told, *entry.arguments, *entry.answer)
         for part, words in zip(told.parts or [told], followed):
             part.more += [words] if words else []
+        for part, reason in zip(told.parts or [told], reasons):
+            self.tell_reason(part, reason)
         told.fill = self.fill
         self.totals.calls += 1
         return told
+
+    def lose_track(self):
+        """Behind a line that could not be told."""
+        self.engines.forget()
+        self.filter.forget()
 
     # ---- places
 
@@ -191,8 +202,6 @@ class Day:
 
     def tell_write(self, told, offset, value, number):
         told.answered = wording.answer(number, f'{wording.register(offset)}: {wording.takes(offset, value)}')
-        if number == 0 and offset == wording.MAC_CONTROL:
-            self.control = value
 
     def tell_line(self, told, high):
         told.answered = f'{high}: the interrupt line is {"high" if high else "low"}'
@@ -207,7 +216,7 @@ class Day:
         self.fill += 1
 
     def tell_frame(self, told, data, number):
-        told.asked = f'frame ({message(data, 4, self.control)})'
+        told.asked = f'frame ({message(data, 4, self.filter.control)})'
         told.number = number
         if number == 0:
             told.kind, told.answered = 'delivered', '0 delivered'
@@ -221,6 +230,12 @@ class Day:
         else:
             told.kind, told.answered = 'refused', wording.answer(number)
             add(self.totals.frames_refused, number)
+
+    def tell_reason(self, told, reason):
+        """Why a delivered frame was taken."""
+        if told.kind == 'delivered' and reason:
+            told.answered += f': {reason}'
+            add(self.totals.reasons, reason)
 
     def tell_burst(self, told, room, store, places, number, answers):
         told.asked = (f'burst ({count(len(places), "pair")}, a store of {count(len(store), "byte")}, '
@@ -286,6 +301,9 @@ class Day:
     def tell_peek(self, told, address, length, verdict):
         if verdict == 'outside':
             told.answered = 'outside the window'
+        elif length == 4 and address - wording.STATUS_WORD in self.descriptors:
+            at = self.the_descriptor(address - wording.STATUS_WORD)
+            told.answered = f'{verdict}: packet status of {at}, {wording.status(wording.word(pairing.bytes_of(verdict), 0))}'
         else:
             told.answered = wording.text(pairing.bytes_of(verdict)) or verdict
 

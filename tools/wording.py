@@ -32,7 +32,8 @@ LEAVES = {
     12: 'sending stops',
 }
 
-MAC_CONTROL = 0x400
+# the filter registers
+MAC_CONTROL, ADDRESS_HIGH, ADDRESS_LOW, HASH_HIGH, HASH_LOW = 0x400, 0x404, 0x408, 0x40c, 0x410
 # offset: short name, name
 REGISTERS = {
     0x04: ('IER', 'interrupt enable'),
@@ -42,10 +43,10 @@ REGISTERS = {
     0x30: ('TXSTR', 'send start'),
     0x3c: ('TXNDAR', 'send next descriptor'),
     MAC_CONTROL: ('MCR', 'MAC control'),
-    0x404: ('MAH', 'MAC address high'),
-    0x408: ('MAL', 'MAC address low'),
-    0x40c: ('MCHA', 'multicast hash high'),
-    0x410: ('MCLA', 'multicast hash low'),
+    ADDRESS_HIGH: ('MAH', 'MAC address high'),
+    ADDRESS_LOW: ('MAL', 'MAC address low'),
+    HASH_HIGH: ('MCHA', 'multicast hash high'),
+    HASH_LOW: ('MCLA', 'multicast hash low'),
 }
 
 INTERRUPTS = [
@@ -69,10 +70,12 @@ FIELDS = {
 }
 
 # filter modes that take groups, by their field of MAC control
-MULTICAST_HASH = 0b001
-MODES = {MULTICAST_HASH: 'multicast by hash', 0b101: 'all-multicast on'}
+MULTICAST_HASH, ALL_MULTICAST = 0b001, 0b101
+MODES = {MULTICAST_HASH: 'multicast by hash', ALL_MULTICAST: 'all-multicast on'}
 
 DMA_EN, START_FETCH, NEXT_ENABLE, VALID = 1 << 0, 1 << 2, 1 << 14, 1 << 16
+# of the packet status word of a delivered frame: its length, and the bits of its reason
+FRAME_LENGTH, MULTICAST_FRAME, BROADCAST_FRAME = 0x7ff, 1 << 27, 1 << 28
 # next-polling enable, of a next-descriptor register and of a descriptor's next word
 NPOL_EN = 1 << 0
 # how many bytes a descriptor has; words of it, by their first byte
@@ -143,11 +146,16 @@ def hashes(control, destination):
     return group and not receive_all(control) and filter_mode(control) == MULTICAST_HASH
 
 
-def hash_bit(destination):
-    """The bit of the hash registers that a group has, by the 802.3 register: zlib's is kept the other way round, and
-    complemented at the end."""
+def hash_place(destination):
+    """Which hash register has a group's bit, its offset, and which bit that is, by the 802.3 register: zlib's is kept the
+    other way round, and complemented at the end."""
     coefficients = f'{zlib.crc32(destination) ^ 0xffffffff:032b}'[::-1]
-    return f'{"MCHA" if coefficients[0] == "1" else "MCLA"} bit {int(coefficients[1:6], 2)}'
+    return HASH_HIGH if coefficients[0] == '1' else HASH_LOW, int(coefficients[1:6], 2)
+
+
+def hash_bit(destination):
+    offset, bit = hash_place(destination)
+    return f'{REGISTERS[offset][0]} bit {bit}'
 
 
 def bits(value):
@@ -232,6 +240,12 @@ def word(data, at):
 def owner(status):
     """Who has a descriptor, by its packet status word."""
     return 'granted' if status & VALID else 'returned'
+
+
+def status(value):
+    """A packet status word: who has the descriptor, and what it says of a delivered frame."""
+    named = [words for bit, words in ((BROADCAST_FRAME, 'broadcast'), (MULTICAST_FRAME, 'multicast')) if value & bit]
+    return ', '.join([owner(value), f'length {value & FRAME_LENGTH}'] + named)
 
 
 def leads(following):

@@ -38,7 +38,7 @@ one-kept : (b : Bench) (frame : List ℕ)
     (call b (receiveCall frame) .bench .memory)
 one-kept b frame =
     by-receive (λ o. SameOutside (if eqb (o .number) 0 then delivery b frame else []) (b .memory) (o .memory)) (b .device) (b .memory) frame
-    (same _ _) (same _ _) (same _ _) (same _ _) (same _ _) (same _ _) (same _ _) (delivered-kept b frame)
+    (same _ _) (same _ _) (same _ _) (same _ _) (same _ _) (same _ _) (same _ _) (delivered-kept b _ frame)
 
 receives-kept : (frames : List (List ℕ)) (b : Bench) → SameOutside (deliveries b frames) (b .memory) (afterReceives b frames .memory)
 unfolding deliveries afterReceives

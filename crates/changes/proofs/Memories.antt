@@ -51,20 +51,20 @@ grant-kept b address =
     (same _ _) (same _ _) (same _ _) (status-stored b (b .memory) address _ [])
 
 -- a delivery
-pub delivered-kept : (b : Bench) (frame : List ℕ)
-    → SameOutside (delivery b frame) (b .memory) (delivered (b .device .base) (b .memory) (b .device .registers .rx .place) frame)
+pub delivered-kept : (b : Bench) (reason : ℕ) (frame : List ℕ)
+    → SameOutside (delivery b frame) (b .memory) (delivered (b .device .base) (b .memory) (b .device .registers .rx .place) reason frame)
 unfolding delivered
-delivered-kept b frame =
+delivered-kept b reason frame =
     let words = statusWord b (b .device .registers .rx .place) ∷ [] in
     let at = offset (b .device .base) (start (b .device .base) (b .memory) (b .device .registers .rx .place)) in
     both _ words _ _ _ (λ j h. h .1)
     (stored (b .memory) at frame words)
-    (status-stored b (store (b .memory) at frame) (b .device .registers .rx .place) (length frame) [])
+    (status-stored b (store (b .memory) at frame) (b .device .registers .rx .place) _ [])
 
 pub receive-kept : (b : Bench) (frame : List ℕ) → MemoryKept b (receiveCall frame)
 receive-kept b frame =
     by-receive (λ o. SameOutside (delivery b frame) (b .memory) (o .memory)) (b .device) (b .memory) frame
-    (same _ _) (same _ _) (same _ _) (same _ _) (same _ _) (same _ _) (same _ _) (delivered-kept b frame)
+    (same _ _) (same _ _) (same _ _) (same _ _) (same _ _) (same _ _) (same _ _) (delivered-kept b _ frame)
 
 pub send-kept : (b : Bench) (output : List ℕ) (rs : List Region)
     → SameOutside (statusWord b (b .device .registers .tx .place) ∷ rs) (b .memory) (call b (sendCall output) .bench .memory)

@@ -14,8 +14,9 @@ use Rattle.chain.specs.Buffer.{bytesFault, bufferFault}
 use Rattle.fcs.specs.Polynomial.{generator, remainder, registerBits, checkBits}
 use Rattle.fcs.specs.CheckSequence.{checkNumber, checkSequence, checkRight}
 use Rattle.frame.specs.Length.{lengthAllowed}
-use Rattle.filter.specs.Address.{accepts}
-use Rattle.frame.specs.Frame.{frameNumber}
+use Rattle.reason.specs.Status.{deliveredStatus}
+use Rattle.address_rule.specs.AddressRule.{firstMet}
+use Rattle.frame.specs.Frame.{frameNumberBy}
 use Rattle.outcomes.specs.Outcomes.{rxRefused, rxAdvanced}
 use Rattle.receiving.specs.Receiving.{receiveNumber, delivered}
 use Rattle.engine.specs.Engine.{notGranted}
@@ -100,8 +101,8 @@ pub a-burst : BurstExample
 unfolding
     lent aligned inWindow apart placeOf polls follow
     count nextEnabled start nextWord next packetStatus granted withPacketStatus bufferFault bytesFault word wordBytes store
-    frame other frameNumber lengthAllowed accepts checkRight checkSequence checkNumber checkBits registerBits remainder generator
-    receive receiving.receive receiveAt receiveNumber chainNumber rxRefused notGranted delivered rxAdvanced
+    frame other frameNumberBy lengthAllowed firstMet checkRight checkSequence checkNumber checkBits registerBits remainder generator
+    receive receiving.receive receiveAt receiveNumber chainNumber rxRefused notGranted delivered deliveredStatus rxAdvanced
     grant plain.grant grantNumber holdsDescriptor startWritten afterSteps deliveredBy
     passes bytesOf received receives refuses burst pairsOf uneven burstOf taken framesInside answersInside
 a-burst =

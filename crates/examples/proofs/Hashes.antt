@@ -13,9 +13,10 @@ use Rattle.chain.specs.Buffer.{bytesFault, bufferFault}
 use Rattle.fcs.specs.Polynomial.{generator, remainder, registerBits, checkBits}
 use Rattle.fcs.specs.CheckSequence.{checkNumber, checkSequence, checkRight}
 use Rattle.hash.specs.Hash.{hashIndex, hashAccepts}
-use Rattle.filter.specs.Address.{accepts}
+use Rattle.reason.specs.Status.{deliveredStatus}
+use Rattle.address_rule.specs.AddressRule.{firstMet}
 use Rattle.frame.specs.Length.{lengthAllowed}
-use Rattle.frame.specs.Frame.{frameNumber}
+use Rattle.frame.specs.Frame.{frameNumberBy}
 use Rattle.registers.specs.declared.Register.the-variants.{Mcr, Mcla}
 use Rattle.register_write.specs.Write.{written}
 use Rattle.outcomes.specs.Outcomes.{rxRefused, rxAdvanced}
@@ -73,6 +74,8 @@ pub record HashExample : Type 0 where
   pub turnedAway : brings byHash turned ≡ 6
   pub lost : Lost (begin byHash) (publicCall (receiveCall taken)) 0
   pub counts : deliveredBy (begin byHash) steps ≡ 0 ∷ 0 ∷ 0 ∷ 1 ∷ []
+  -- 64 bytes, taken as a group's: bit 27
+  pub status : packetStatus first (afterSteps (begin byHash) steps .bench .memory) first ≡ 0x0800_0040
   pub claim : Claim byHash 1 first steps
 
 start-here : Start byHash 1 first
@@ -100,9 +103,9 @@ pub a-group : HashExample
 unfolding
     lent aligned inWindow apart placeOf polls follow
     count nextEnabled start nextWord next packetStatus granted withPacketStatus bufferFault bytesFault word wordBytes store
-    taken turned frameNumber lengthAllowed accepts hashAccepts hashIndex
+    taken turned frameNumberBy lengthAllowed firstMet hashAccepts hashIndex
     checkRight checkSequence checkNumber checkBits registerBits remainder generator
-    receive receiving.receive receiveAt receiveNumber chainNumber rxRefused notGranted delivered rxAdvanced
+    receive receiving.receive receiveAt receiveNumber chainNumber rxRefused notGranted delivered deliveredStatus rxAdvanced
     grant plain.grant grantNumber holdsDescriptor startWritten afterSteps deliveredBy
 a-group = record {
   starts = start-here;
@@ -111,5 +114,6 @@ a-group = record {
   turnedAway = refl;
   lost = refl;
   counts = refl;
+  status = refl;
   claim = demand3 byHash 1 first start-here steps all-permitted;
 }

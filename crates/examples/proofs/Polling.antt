@@ -15,8 +15,9 @@ use Rattle.chain.specs.Chain.{chainNumber}
 use Rattle.fcs.specs.Polynomial.{generator, remainder, registerBits, checkBits}
 use Rattle.fcs.specs.CheckSequence.{checkNumber, checkSequence, checkRight}
 use Rattle.frame.specs.Length.{lengthAllowed}
-use Rattle.filter.specs.Address.{accepts}
-use Rattle.frame.specs.Frame.{frameNumber}
+use Rattle.reason.specs.Status.{deliveredStatus}
+use Rattle.address_rule.specs.AddressRule.{firstMet}
+use Rattle.frame.specs.Frame.{frameNumberBy}
 use Rattle.ring_descriptors.specs.RingDescriptors.{soundDescriptor, regionsApart}
 use Rattle.ring.specs.Ring.{apartFromRest, ringFrom, soundRing}
 use Rattle.engine.specs.Engine.{notGranted}
@@ -114,8 +115,8 @@ both : AtStart × InRing
 unfolding
     soundRing ringFrom apartFromRest regionsApart soundDescriptor lent aligned inWindow apart placeOf polls follow
     count nextEnabled start nextWord next packetStatus granted withPacketStatus bufferFault bytesFault word wordBytes store
-    frame frameNumber lengthAllowed accepts checkRight checkSequence checkNumber checkBits registerBits remainder generator
-    receive receiving.receive receiveAt receiveNumber chainNumber rxRefused notGranted delivered rxAdvanced
+    frame frameNumberBy lengthAllowed firstMet checkRight checkSequence checkNumber checkBits registerBits remainder generator
+    receive receiving.receive receiveAt receiveNumber chainNumber rxRefused notGranted delivered deliveredStatus rxAdvanced
     grant plain.grant grantNumber holdsDescriptor startWritten afterSteps
 both = (
   (let b = unpolledStart in

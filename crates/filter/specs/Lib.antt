@@ -1,2 +1,2 @@
-pub mod Address
 pub mod Filter
+pub mod Meaning

@@ -3,14 +3,12 @@ use mathlib.Core.Path.{_≡_, refl}
 use mathlib.Core.Bool.{Bool, true, false, not}
 use mathlib.Core.List.{List}
 use Prim.Native.Nat.{ℕ, _≤_, _<_}
-use borrow.Author.Tests.{le-leb, lt-leb}
+use borrow.Author.Tests.{le-leb, lt-leb, eq-eqb, ne-eqb}
 use lib.Dec.{leb}
 use lib.ListN.{length}
 use Rattle.rules.proofs.Choices.{if-yes, if-no, is-and, said-not}
 use Rattle.fcs.specs.CheckSequence.{checkRight}
-use Rattle.filter.specs.declared.Filter.{Filter}
-use Rattle.filter.specs.Address.{accepts}
-use Rattle.frame.specs.Frame.{frameNumber}
+use Rattle.frame.specs.Frame.{frameNumberBy}
 use Rattle.frame.specs.Length.{lengthAllowed}
 
 -- ---- length_allowed
@@ -25,29 +23,35 @@ under-64 n h = rw (lt-leb 64 n h)
 
 -- ---- frame_number: rows 4, 5 and 6, in this order
 
-module _ (filter : Filter) (f : List ℕ) (l : Bool) (el : l ≡ lengthAllowed (length f)) where
-  pub length-4 : not l ≡ true → 4 ≡ frameNumber filter f
-  unfolding frameNumber
+module _ (reason : ℕ) (f : List ℕ) (l : Bool) (el : l ≡ lengthAllowed (length f)) where
+  pub length-4 : not l ≡ true → 4 ≡ frameNumberBy reason f
+  unfolding frameNumberBy
   length-4 nl = if-yes _ _ _ _ (said-not (lengthAllowed (length f)) l true el nl) refl
 
   module _ (r : Bool) (yl : not l ≡ false) (er : r ≡ checkRight f) where
-    pub check-5 : not r ≡ true → 5 ≡ frameNumber filter f
-    unfolding frameNumber
+    pub check-5 : not r ≡ true → 5 ≡ frameNumberBy reason f
+    unfolding frameNumberBy
     check-5 nr =
         if-no _ _ _ _ (said-not (lengthAllowed (length f)) l false el yl) (
         if-yes _ _ _ _ (said-not (checkRight f) r true er nr) refl)
 
-    module _ (o : Bool) (yr : not r ≡ false) (eo : o ≡ accepts filter f) where
-      pub address-6 : not o ≡ true → 6 ≡ frameNumber filter f
-      unfolding frameNumber
-      address-6 h =
-          if-no _ _ _ _ (said-not (lengthAllowed (length f)) l false el yl) (
-          if-no _ _ _ _ (said-not (checkRight f) r false er yr) (
-          if-yes _ _ _ _ (said-not (accepts filter f) o true eo h) refl))
+    module _ (n : ℕ) (yr : not r ≡ false) (en : n ≡ reason) where
+      pub address-6 : n ≡ 0 → 6 ≡ frameNumberBy reason f
+      unfolding frameNumberBy
+      address-6 z =
+          rw (
+            said-not (lengthAllowed (length f)) l false el yl,
+            said-not (checkRight f) r false er yr,
+            ← en,
+            eq-eqb n 0 z,
+          )
 
-      pub none-met-0 : not o ≡ false → 0 ≡ frameNumber filter f
-      unfolding frameNumber
+      pub none-met-0 : (n ≡ 0 → ⊥) → 0 ≡ frameNumberBy reason f
+      unfolding frameNumberBy
       none-met-0 h =
-          if-no _ _ _ _ (said-not (lengthAllowed (length f)) l false el yl) (
-          if-no _ _ _ _ (said-not (checkRight f) r false er yr) (
-          if-no _ _ _ _ (said-not (accepts filter f) o false eo h) refl))
+          rw (
+            said-not (lengthAllowed (length f)) l false el yl,
+            said-not (checkRight f) r false er yr,
+            ← en,
+            ne-eqb n 0 h,
+          )

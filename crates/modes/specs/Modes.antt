@@ -3,7 +3,8 @@ use Prim.Native.Nat.{ℕ}
 use mathlib.Core.Path.{_≡_}
 use mathlib.Core.List.{List}
 use Rattle.filter.specs.declared.Filter.{Filter}
-use Rattle.filter.specs.Address.{receiveAll, filterMode, accepts}
+use Rattle.filter.specs.Meaning.{receiveAll, filterMode}
+use Rattle.address_rule.specs.AddressRule.{addressRule}
 
 -- one station, with receive-all set or clear in both; filter mode, hash registers and all other bits of MAC control may differ
 pub record OneStation (f g : Filter) : Type 0 where
@@ -11,7 +12,7 @@ pub record OneStation (f g : Filter) : Type 0 where
   pub high : f .mah ≡ g .mah
   pub low : f .mal ≡ g .mal
 
--- with v in both hash registers the mode 001b accepts the frames that another mode accepts, and no others
+-- with v in both hash registers the mode 001b takes the frames that another mode takes, each for the same reason, and no others
 abbrev pub HashAcceptsAs : ℕ → ℕ → Type 0
 HashAcceptsAs v mode =
     (f g : Filter) → OneStation f g
@@ -20,7 +21,7 @@ HashAcceptsAs v mode =
     → f .mcla ≡ v
     → filterMode (g .mcr) ≡ mode
     → (frame : List ℕ)
-    → accepts f frame ≡ accepts g frame
+    → addressRule f frame ≡ addressRule g frame
 
 -- all ones: as mode 101b, all-multicast
 abbrev pub OnesAsAllMulticast : Type 0

@@ -9,7 +9,7 @@ use lib.ListN.{length}
 use borrow.Author.Tests.{ltb-false}
 use Rattle.rules.proofs.Choices.{by-bool, by-test}
 use Rattle.window.specs.Window.{lent}
-use Rattle.frame.specs.Frame.{frameNumber}
+use Rattle.address_rule.specs.AddressRule.{addressRule}
 use Rattle.engine.specs.declared.Engine.{Engine}
 use Rattle.engine.specs.Engine.{stopped, notGranted}
 use Rattle.receiving.specs.Receiving.{receiveNumber}
@@ -52,9 +52,9 @@ module _ (d : Enet) (m f : List ℕ) (off : d .registers .rx .running ≡ false)
     where
       -- a path through the projection: `rw` by it would open d wherever it stands
       now : receive d m f .number
-          ≡ ofReceived d (receiveAt (d .base) (d .window) (d .registers) false (d .registers .rx .place) (frameNumber (d .registers .filter) f) m f) .number
+          ≡ ofReceived d (receiveAt (d .base) (d .window) (d .registers) false (d .registers .rx .place) (addressRule (d .registers .filter) f) m f) .number
       now = λ j.
-          ofReceived d (receiveAt (d .base) (d .window) (d .registers) (off j) (d .registers .rx .place) (frameNumber (d .registers .filter) f) m f) .number
+          ofReceived d (receiveAt (d .base) (d .window) (d .registers) (off j) (d .registers .rx .place) (addressRule (d .registers .filter) f) m f) .number
 
 module _ (d : Enet) (m out : List ℕ) (off : d .registers .tx .running ≡ false) where
   sends-none : ¬ (send d m out .number ≡ 8)

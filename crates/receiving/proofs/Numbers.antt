@@ -8,8 +8,7 @@ use borrow.Author.Tests.{eqb-true}
 use lib.ListN.{length}
 use Rattle.rules.proofs.Choices.{by-test, by-number, said-yes, said-no, refused-by, passed-by}
 use Rattle.window.specs.Window.{lent}
-use Rattle.filter.specs.declared.Filter.{Filter}
-use Rattle.frame.specs.Frame.{frameNumber}
+use Rattle.frame.specs.Frame.{frameNumberBy}
 use Rattle.frame.proofs.Passed.{passed-short}
 use Rattle.chain.specs.Chain.{chainNumber}
 use Rattle.chain.proofs.Laws.{by-chain}
@@ -46,13 +45,13 @@ by-receive-number P base window running place first m n r11 r3 rf r7 r8 r0 =
     by-number P first (chainNumber base window m place n) (λ _. rf) (λ _. by-chain P base window m place n r7 r8 r0)))
 
 -- a frame that is not refused is of an allowed length
-pub received-short : (base window : ℕ) (running : Bool) (place : ℕ) (filter : Filter) (m f : List ℕ) (n : ℕ)
-    → n ≡ receiveNumber base window running place (frameNumber filter f) m (length f) → n ≡ 0 → length f ≤ 1518
+pub received-short : (base window : ℕ) (running : Bool) (place reason : ℕ) (m f : List ℕ) (n : ℕ)
+    → n ≡ receiveNumber base window running place (frameNumberBy reason f) m (length f) → n ≡ 0 → length f ≤ 1518
 unfolding receiveNumber
-received-short base window running place filter m f n e z =
+received-short base window running place reason m f n e z =
     let short : ℕ → Type 0 = λ k. k ≡ 0 → length f ≤ 1518 in
     by-test short (not (lent window m)) _ _ (λ _ q. absurd (omega arith)) (λ _.
     by-test short (not running) _ _ (λ _ q. absurd (omega arith)) (λ _.
-    by-number short (frameNumber filter f) (chainNumber base window m place (length f)) (λ _. passed-short filter f)
-    (λ t _. passed-short filter f (eqb-true (frameNumber filter f) 0 t))))
+    by-number short (frameNumberBy reason f) (chainNumber base window m place (length f)) (λ _. passed-short reason f)
+    (λ t _. passed-short reason f (eqb-true (frameNumberBy reason f) 0 t))))
     (rw e at z)

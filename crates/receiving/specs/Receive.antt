@@ -6,7 +6,8 @@ use lib.Dec.{eqb}
 use lib.ListN.{length}
 use Rattle.rules.specs.Choice.{if_then_else_}
 use Rattle.descriptor.specs.Descriptor.{nextEnabled, nextWord}
-use Rattle.frame.specs.Frame.{frameNumber}
+use Rattle.address_rule.specs.AddressRule.{addressRule}
+use Rattle.frame.specs.Frame.{frameNumberBy}
 use Rattle.registers.specs.declared.Registers.{Registers}
 use Rattle.registers.specs.declared.Change.{Change}
 use Rattle.outcomes.specs.Outcomes.{rxRefused, rxAdvanced}
@@ -25,18 +26,18 @@ received c m = record { number = c .number; registers = c .registers; memory = m
 abbrev pub leaves : ℕ → Registers → List ℕ → Received
 leaves n r m = record { number = n; registers = r; memory = m }
 
--- what a frame leaves, by its number: 0 delivers it. The next word is the descriptor's own: a frame never lies over its own
+-- what a frame leaves, by its number: 0 delivers it, with `reason`, what the address rule answers. The next word is the descriptor's own: a frame never lies over its own
 -- descriptor, so it is the same before and after the delivery
-abbrev pub receivedBy : ℕ → Registers → ℕ → List ℕ → List ℕ → ℕ → Received
-receivedBy base r place m f n =
+abbrev pub receivedBy : ℕ → Registers → ℕ → ℕ → List ℕ → List ℕ → ℕ → Received
+receivedBy base r place reason m f n =
     if eqb n 0
-    then leaves 0 (rxAdvanced r (nextEnabled base m place) (nextWord base m place)) (delivered base m place f)
+    then leaves 0 (rxAdvanced r (nextEnabled base m place) (nextWord base m place)) (delivered base m place reason f)
     else leaves n (rxRefused n r) m
 
--- what a frame meets: the engine runs or not, its place, and `first`, the first of 4, 5 and 6 that the frame brings, or 0
+-- what a frame meets: the engine runs or not, its place, and what the address rule answers
 unfoldable pub receiveAt : ℕ → ℕ → Registers → Bool → ℕ → ℕ → List ℕ → List ℕ → Received
-receiveAt base window r running place first m f =
-    receivedBy base r place m f (receiveNumber base window running place first m (length f))
+receiveAt base window r running place reason m f =
+    receivedBy base r place reason m f (receiveNumber base window running place (frameNumberBy reason f) m (length f))
 
 unfoldable pub receive : ℕ → ℕ → Registers → List ℕ → List ℕ → Received
-receive base window r m f = receiveAt base window r (r .rx .running) (r .rx .place) (frameNumber (r .filter) f) m f
+receive base window r m f = receiveAt base window r (r .rx .running) (r .rx .place) (addressRule (r .filter) f) m f

@@ -1,19 +1,20 @@
 // The number of a receive.
 ghost use mathlib.Core.Path.{_≡_};
+ghost use Rattle.reason.specs.Reason.{reasonNumber};
 ghost use Rattle.receiving.specs.Receiving.{receiveNumberOf};
 use engine::Engine;
-use filter::Filter;
+use reason::Reason;
 
 // 11, 3, 4, 5, 6, 7 for the descriptor, 8, 7 for the buffer, or 0.
 pub(crate) fn number(
     base: u32,
     window: u32,
     rx: Engine,
-    filter: Filter,
+    reason: Reason,
     m: &[u8],
     frame: &[u8],
 ) -> u32
-    ensures { λ n. ⌜ n ≡ receiveNumberOf base window rx filter (now (m .entry)) (now (frame .entry)) ⌝ }
+    ensures { λ n. ⌜ n ≡ receiveNumberOf base window rx (reasonNumber reason) (now (m .entry)) (now (frame .entry)) ⌝ }
 {
     if !window::lent(window, m) {
         return answer::LENT_LENGTH;
@@ -21,7 +22,7 @@ pub(crate) fn number(
     if !rx.running {
         return answer::NOT_RUNNING;
     }
-    let first = frame::frame_number(filter, frame);
+    let first = frame::frame_number(reason, frame);
     if first != answer::DONE {
         return first;
     }

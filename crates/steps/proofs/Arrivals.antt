@@ -11,6 +11,7 @@ use lib.Dec.{eqb, ltb}
 use lib.ListN.{length}
 use borrow.Author.Tests.{lt-ltb, le-ltb, ne-eqb}
 use Rattle.rules.specs.Choice.{if_then_else_}
+use Rattle.reason.proofs.Laws.{status-fits, status-returned}
 use Rattle.frame.proofs.Passed.{passed-short}
 use Rattle.enet.specs.Device.{Outcome}
 use Rattle.calls.specs.Calls.{Bench, receiveCall, call}
@@ -18,7 +19,7 @@ use Rattle.steps.specs.Steps.{counted, brings}
 use Rattle.steps.proofs.Places.{RingSound}
 use Rattle.steps.proofs.Held.{held-deliver}
 use Rattle.steps.proofs.Invariant.{Inv, keeps}
-use Rattle.steps.proofs.Now.{deviceAfter, memoryAfter, turned-away, lost-now, taken-now}
+use Rattle.steps.proofs.Now.{statusOf, deviceAfter, memoryAfter, turned-away, lost-now, taken-now}
 use Rattle.steps.proofs.Same.{same-but-interrupts, same-ring}
 
 module _ (passes : List ℕ → Bool) where
@@ -41,7 +42,10 @@ module _ (b : Bench) (n first : ℕ) (sound : RingSound b n first) where
     delivers : brings b f ≡ 0 → v < length gs → Inv b n first sound (deviceAfter b first (c .device) v) (memoryAfter b first (c .memory) v f) gs (v + 1)
     unfolding deviceAfter memoryAfter
     delivers pass left =
-        let held = held-deliver b n first sound (c .memory) v (length gs) f (i .held) left (passed-short _ f pass) in
+        let short = passed-short _ f pass in
+        let held =
+        held-deliver b n first sound (c .memory) v (length gs) f (statusOf b f) (i .held) left short
+        (status-fits _ (length f) (omega arith)) (status-returned _ (length f) (omega arith)) in
         let x = i .fixed in
         rw add-one (record {
           fixed = record {

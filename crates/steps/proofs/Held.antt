@@ -8,7 +8,6 @@ use mathlib.Core.List.{List}
 use native.Mathlib.Omega.{arith}
 use native.Mathlib.Decide.{ℕ-discrete, decLt}
 use lib.ListN.{length, getD}
-use borrow.Author.Tests.{ne-eqb}
 use Rattle.rules.specs.Bit.{bit}
 use Rattle.memory.specs.Memory.{word, wordBytes, store, storeWord}
 use Rattle.memory.proofs.Stores.{Apart, length-word-bytes, length-store, word-apart, word-back}
@@ -16,10 +15,6 @@ use Rattle.packet_status.specs.PacketStatus.{grantedStatus}
 use Rattle.calls.specs.Calls.{Bench}
 use Rattle.memory.proofs.Stores.{word-same}
 use Rattle.steps.proofs.Places.{RingSound, descAt, bufAt, spot, far, desc-round, desc-low}
-
--- a frame's length has VALID at the level returned
-not-valid : (w : ℕ) → w < 2 ^ 16 → bit 16 w ≡ false
-not-valid w l = ne-eqb (w / 2 ^ 16 % 2) 1 (λ e. omega arith)
 
 -- a list that starts from b
 module _ (b : Bench) (n first : ℕ) (sound : RingSound b n first) where
@@ -102,11 +97,12 @@ module _ (b : Bench) (n first : ℕ) (sound : RingSound b n first) where
       ready′ t l u (no e) = rw (other t 12 e l (omega arith) (omega arith)) (h .ready t l (omega arith))
 
   -- the next delivery
-  pub held-deliver : (m : List ℕ) (v g : ℕ) (f : List ℕ) → Held m v g → v < g → length f ≤ 1518
-      → Held (storeWord (store m (buf v) f) (desc v + 12) (length f)) (suc v) g
-  held-deliver m v g f h some short =
+  pub held-deliver : (m : List ℕ) (v g : ℕ) (f : List ℕ) (status : ℕ) → Held m v g → v < g → length f ≤ 1518
+      → status < 2 ^ 32 → bit 16 status ≡ false
+      → Held (storeWord (store m (buf v) f) (desc v + 12) status) (suc v) g
+  held-deliver m v g f status h some short small returned =
       record {
-        long = length-store (store m (buf v) f) (desc v + 12) (wordBytes (length f)) ∙ length-store m (buf v) f ∙ h .long;
+        long = length-store (store m (buf v) f) (desc v + 12) (wordBytes status) ∙ length-store m (buf v) f ∙ h .long;
         fixed = λ t k l u i. fixed′ t k l u i (decLt t (v + n));
         ready = λ t l u. rw (other t 12 (omega arith) (omega (arith, h .few)) (omega arith)) (h .ready t (omega arith) u);
         spent = λ t l u. spent′ t l u (decLt t (v + n));
@@ -115,18 +111,18 @@ module _ (b : Bench) (n first : ℕ) (sound : RingSound b n first) where
       }
     where
       after : List ℕ
-      after = storeWord (store m (buf v) f) (desc v + 12) (length f)
+      after = storeWord (store m (buf v) f) (desc v + 12) status
 
       -- neither the frame nor the status lies in words a descriptor of another place, nor in the first three of its own
-      beside : (t k : ℕ) → Apart (desc t + k) 4 (desc v + 12) (length (wordBytes (length f))) → Apart (desc t + k) 4 (buf v) (length f)
+      beside : (t k : ℕ) → Apart (desc t + k) 4 (desc v + 12) (length (wordBytes status)) → Apart (desc t + k) 4 (buf v) (length f)
           → word after (desc t + k) ≡ word m (desc t + k)
-      beside t k a b = word-apart (store m (buf v) f) (desc v + 12) (wordBytes (length f)) (desc t + k) a ∙ word-apart m (buf v) f (desc t + k) b
+      beside t k a b = word-apart (store m (buf v) f) (desc v + 12) (wordBytes status) (desc t + k) a ∙ word-apart m (buf v) f (desc t + k) b
 
       other : (t k : ℕ) → v < t → t < v + n → k ≤ 12 → word after (desc t + k) ≡ word m (desc t + k)
       other t k l u i =
           let w = far b n first sound v t (omega arith) (omega arith) (omega arith) in
           let room = spot b n first sound v .room in
-          let four = length-word-bytes (length f) in
+          let four = length-word-bytes status in
           beside t k
           (⊎-elim (λ a. inr (omega arith)) (λ a. inl (omega arith)) (w .descriptors))
           (⊎-elim (λ a. inr (omega arith)) (λ a. inl (omega arith)) (w .buffer-descriptor))
@@ -149,5 +145,4 @@ module _ (b : Bench) (n first : ℕ) (sound : RingSound b n first) where
           let fits = spot b n first sound v .fits in
           let long = h .long in
           let whole = length-store m (buf v) f in
-          let status = word-back (store m (buf v) f) (desc v + 12) (length f) (omega arith) (omega arith) in
-          rw (e, desc-round b n first sound v, status) (not-valid (length f) (omega arith))
+          rw (e, desc-round b n first sound v, word-back (store m (buf v) f) (desc v + 12) status small (omega arith)) returned

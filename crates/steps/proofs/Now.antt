@@ -16,7 +16,8 @@ use Rattle.descriptor.specs.Descriptor.{count, nextEnabled, start, nextWord, ne
 use Rattle.packet_status.specs.PacketStatus.{packetStatus, granted, withPacketStatus}
 use Rattle.chain.specs.Buffer.{bytesFault, bufferFault}
 use Rattle.frame.proofs.Passed.{passed-short}
-use Rattle.frame.specs.Frame.{frameNumber}
+use Rattle.reason.specs.Status.{deliveredStatus}
+use Rattle.address_rule.specs.AddressRule.{addressRule}
 use Rattle.enet.specs.declared.Enet.{Enet}
 use Rattle.enet.specs.Device.{leaves, raised, withRx, rxNotGranted}
 use Rattle.address.specs.Address.{polls}
@@ -42,12 +43,19 @@ use Rattle.links.proofs.Sound.{Sound, whole, some, sound-at}
 use Rattle.steps.proofs.Places.{RingSound, descAt, bufAt}
 use Rattle.steps.proofs.Invariant.{Inv}
 
+-- what the address rule answers for a frame, by the registers of b, and the packet status word of its delivery
+abbrev reasonOf : Bench → List ℕ → ℕ
+reasonOf b f = addressRule (b .device .registers .filter) f
+
+abbrev pub statusOf : Bench → List ℕ → ℕ
+statusOf b f = deliveredStatus (reasonOf b f) (length f)
+
 -- what the delivery after v others leaves
 unfoldable pub deviceAfter : Bench → ℕ → Enet → ℕ → Enet
 deviceAfter b first d v = withRx (raised d rxCurrDone) (withPlace (d .registers .rx) (inOrder b first (suc v)) true)
 
 unfoldable pub memoryAfter : Bench → ℕ → List ℕ → ℕ → List ℕ → List ℕ
-memoryAfter b first m v f = storeWord (store m (bufAt b first v) f) (descAt b first v + 12) (length f)
+memoryAfter b first m v f = storeWord (store m (bufAt b first v) f) (descAt b first v + 12) (statusOf b f)
 
 module _ {b : Bench} {n first : ℕ} {sound : RingSound b n first} {d : Enet} {m gs : List ℕ} {v : ℕ} (i : Inv b n first sound d m gs v) where
   abbrev base₀ : ℕ
@@ -133,16 +141,16 @@ module _ {b : Bench} {n first : ℕ} {sound : RingSound b n first} {d : Enet} {m
 
   -- a path through the projections: `rw` by one of them would open d wherever it stands
   receive-now : (f : List ℕ)
-      → receive d m f ≡ ofReceived d (receiveAt (d .base) (d .window) (d .registers) true (turn v) (brings b f) m f)
+      → receive d m f ≡ ofReceived d (receiveAt (d .base) (d .window) (d .registers) true (turn v) (reasonOf b f) m f)
   unfolding receive receiving.receive
   receive-now f = λ j.
-      ofReceived d (receiveAt (d .base) (d .window) (d .registers) (i .fixed .receiving j) (i .place j) (frameNumber (i .fixed .filter j) f) m f)
+      ofReceived d (receiveAt (d .base) (d .window) (d .registers) (i .fixed .receiving j) (i .place j) (addressRule (i .fixed .filter j) f) m f)
 
   pub turned-away : (f : List ℕ) → brings b f ≢ 0 → receive d m f ≡ leaves (brings b f) d m
   unfolding receiveAt receiveNumber
   turned-away f ne =
       receive-now f
-      ∙ rw (lent-now, ne-eqb (brings b f) 0 ne, ne-eqb (brings b f) 0 ne, frame-keeps (b .device .registers .filter) (d .registers) f)
+      ∙ rw (lent-now, ne-eqb (brings b f) 0 ne, ne-eqb (brings b f) 0 ne, frame-keeps (reasonOf b f) (d .registers) f)
 
   -- with polling enabled the engine looks again
   looks-again : leaves 8 (rxNotGranted (raised d packetLost)) m ≡ leaves 8 (raised d packetLost) m
@@ -175,4 +183,4 @@ module _ {b : Bench} {n first : ℕ} {sound : RingSound b n first} {d : Enet} {m
       )
       (λ j.
       leaves 0 (withRx (raised d rxCurrDone) (withPlace (d .registers .rx) (turn (suc v)) true))
-      (storeWord (store m (offset (i .fixed .base j) (start base₀ m₀ (turn v))) f) (offset (i .fixed .base j) (turn v) + 12) (length f)))
+      (storeWord (store m (offset (i .fixed .base j) (start base₀ m₀ (turn v))) f) (offset (i .fixed .base j) (turn v) + 12) (statusOf b f)))

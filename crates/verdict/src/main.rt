@@ -28,7 +28,8 @@ fn main() {
         mcha: 0,
         mcla: 0,
     };
-    let number = frame::frame_number(filter, &input[..n]);
+    let reason = address_rule::apply(filter, &input[..n]);
+    let number = frame::frame_number(reason, &input[..n]);
     write_line(b"length ", n as u64);
     write_line(b"verdict ", number as u64);
 }

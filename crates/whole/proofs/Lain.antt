@@ -1,7 +1,7 @@
 -- A delivered frame lies in its buffer, and stays there while frames come and no grant is made: the frames behind it have no more
 -- than the grants that were left, so they go to other places of one round. Assumes nothing.
 use Prim.Native.Nat.{ℕ, _+_, _≤_, _<_}
-use mathlib.Core.Path.{_≡_, _∙_}
+use mathlib.Core.Path.{_≡_, sym, _∙_}
 use mathlib.Core.Logic.{inl, inr, ⊎-elim, ⊎-map}
 use mathlib.Core.List.{List}
 use native.Mathlib.Omega.{arith}
@@ -11,6 +11,9 @@ use Rattle.memory.proofs.Stores.{length-word-bytes, length-store, word-apart, w
 use Rattle.window.specs.Window.{offset}
 use Rattle.descriptor.specs.Descriptor.{start}
 use Rattle.packet_status.specs.PacketStatus.{packetStatus}
+use Rattle.reason.specs.Status.{deliveredStatus}
+use Rattle.reason.proofs.Laws.{status-fits}
+use Rattle.address_rule.specs.AddressRule.{addressRule}
 use Rattle.enet.specs.declared.Enet.{Enet}
 use Rattle.links.proofs.Sound.{round}
 use Rattle.calls.specs.Calls.{Bench}
@@ -18,12 +21,12 @@ use Rattle.steps.specs.Start.{inOrder}
 use Rattle.whole.specs.Whole.{LiesWhole}
 use Rattle.steps.proofs.Places.{RingSound, descAt, bufAt, spot, far}
 use Rattle.steps.proofs.Invariant.{Inv}
-use Rattle.steps.proofs.Now.{memoryAfter, some-now, start-now, buffer-inside}
+use Rattle.steps.proofs.Now.{statusOf, memoryAfter, some-now, start-now, buffer-inside}
 
 -- the frame that went to place v lies there
 pub record Lain (b : Bench) (first : ℕ) (m : List ℕ) (v : ℕ) (f : List ℕ) : Type 0 where
   pub bytes : take (length f) (drop (bufAt b first v) m) ≡ f
-  pub status : word m (descAt b first v + 12) ≡ length f
+  pub status : word m (descAt b first v + 12) ≡ statusOf b f
 
 module _ (b : Bench) (n first : ℕ) (sound : RingSound b n first) where
   -- a delivery lays its frame
@@ -38,13 +41,13 @@ module _ (b : Bench) (n first : ℕ) (sound : RingSound b n first) where
       let long = i .held .long in
       let stored = store m (bufAt b first v) f in
       let whole = length-store m (bufAt b first v) f in
-      let four = length-word-bytes (length f) in
+      let four = length-word-bytes (statusOf b f) in
       record {
         bytes =
-            part-apart stored (descAt b first v + 12) (wordBytes (length f)) (bufAt b first v) (length f)
+            part-apart stored (descAt b first v + 12) (wordBytes (statusOf b f)) (bufAt b first v) (length f)
             (⊎-map (λ a. omega arith) (λ a. omega arith) (s .own))
             ∙ part-back m (bufAt b first v) f (omega arith);
-        status = word-back stored (descAt b first v + 12) (length f) (omega arith) (omega arith);
+        status = word-back stored (descAt b first v + 12) (statusOf b f) (status-fits _ (length f) (omega arith)) (omega arith);
       }
 
   -- a delivery to another place of the round leaves it
@@ -57,16 +60,16 @@ module _ (b : Bench) (n first : ℕ) (sound : RingSound b n first) where
       let room = spot b n first sound v .room in
       let room′ = spot b n first sound u .room in
       let stored = store m (bufAt b first u) g in
-      let four = length-word-bytes (length g) in
+      let four = length-word-bytes (statusOf b g) in
       record {
         bytes =
-            part-apart stored (descAt b first u + 12) (wordBytes (length g)) (bufAt b first v) (length f)
+            part-apart stored (descAt b first u + 12) (wordBytes (statusOf b g)) (bufAt b first v) (length f)
             (⊎-map (λ a. omega arith) (λ a. omega arith) (here .buffer-descriptor))
             ∙ part-apart m (bufAt b first u) g (bufAt b first v) (length f)
             (⊎-map (λ a. omega arith) (λ a. omega arith) (here .buffers))
             ∙ x .bytes;
         status =
-            word-apart stored (descAt b first u + 12) (wordBytes (length g)) (descAt b first v + 12)
+            word-apart stored (descAt b first u + 12) (wordBytes (statusOf b g)) (descAt b first v + 12)
             (⊎-map (λ a. omega arith) (λ a. omega arith) (here .descriptors))
             ∙ word-apart m (bufAt b first u) g (descAt b first v + 12)
             (⊎-elim (λ a. inr (omega arith)) (λ a. inl (omega arith)) (there .buffer-descriptor))
@@ -84,5 +87,8 @@ module _ (b : Bench) (n first : ℕ) (sound : RingSound b n first) where
       record {
         inside = rw e (buffer-inside i v (length f) short);
         bytes = (λ j. take (length f) (drop (offset (i .fixed .base j) (e j)) m)) ∙ x .bytes;
-        status = (λ j. word m (offset (i .fixed .base j) (inOrder b first v) + 12)) ∙ x .status;
+        status =
+            (λ j. word m (offset (i .fixed .base j) (inOrder b first v) + 12))
+            ∙ x .status
+            ∙ (λ j. deliveredStatus (addressRule (sym (i .fixed .filter) j) f) (length f));
       }

@@ -1,1 +1,2 @@
 pub mod Lain
+pub mod Shown

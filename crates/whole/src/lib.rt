@@ -1,1 +1,1 @@
-// A frame lies whole in a granted buffer, and stays there while others come: specs/, proved in proofs/. No code.
+// A frame lies whole in a granted buffer, stays there while others come, and is shown: specs/, proved in proofs/. No code.

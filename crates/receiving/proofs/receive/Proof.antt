@@ -10,6 +10,7 @@ receive-spec =
     (tie.spec
     (λ c κs. search needs)
     (λ c κs. search needs)
+    (λ c κs. search needs)
     (λ c. search needs)
     (λ c. search receive-refused)
     (λ c κs. search needs)

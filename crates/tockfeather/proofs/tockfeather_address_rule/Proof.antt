@@ -1,5 +1,5 @@
 -- `tockfeather::tockfeather_address_rule` meets its contract. Assumes nothing.
-use Rattle.tockfeather.proofs.Laws.{yes-1, no-0}
+use mathlib.Core.Path.{_∙_}
 use Rattle.tockfeather.proofs.tockfeather_address_rule.Statement.{statement}
 use Rattle.tockfeather.proofs.tockfeather_address_rule.Tie as tie
 
@@ -8,5 +8,5 @@ tockfeather-address-rule-spec =
     tie.close
     (tie.spec
     (λ c κs. tt)
-    (λ c. yes-1 _ _ (c .before .accepts .ensures) (c .if1 .taken))
-    (λ c. no-0 _ _ (c .before .accepts .ensures) (c .if1 .left)))
+    (λ c κs. tt)
+    (λ c. c .number .ensures ∙ c .before .apply .ensures))
