@@ -460,7 +460,7 @@ class Tests:
         told = [re.sub(r'^\d+ ', '', row) for row in rows(re.sub(r'\n +->', ' ->', text))]
         given = [row.split(' -> 0 delivered')[1] for row in told if ' -> 0 delivered' in row]
         self.expect('reasons of the day', given == [f': {reason}' for reason in REASONS], given)
-        given = [row.split(' -> ')[1] for row in told if ': packet status of ' in row]
+        given = [row.split(' -> ')[1] for row in told if row.startswith('peek ') and ': packet status of ' in row]
         self.expect('packet status words of the day', given == STATUSES, given)
         at = told.index(HASHED[0]) if HASHED[0] in told else 0
         self.expect('the hash of the day', told[at:at + len(HASHED)] == HASHED, text)

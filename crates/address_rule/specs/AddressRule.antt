@@ -37,10 +37,11 @@ multicastHash control = eqb (filterMode control) 1
 
 -- the group branch of the address rule. 01: "accept exactly if all-multicast is selected". 02 amends it for one mode, which "replaces only the group
 -- branch of the address rule": accept exactly if the destination's bit in the hash registers is 1
-abbrev pub acceptsGroup : Filter → List ℕ → Bool
-acceptsGroup filter address =
-    if multicastHash (filter .mcr) then hashAccepts (filter .mcha) (filter .mcla) address else
-    allMulticast (filter .mcr)
+abbrev pub groupRule : Filter → List ℕ → Reason
+groupRule filter address =
+    if multicastHash (filter .mcr) then (if hashAccepts (filter .mcha) (filter .mcla) address then Group else NotTaken) else
+    if allMulticast (filter .mcr) then Group else
+    NotTaken
 
 -- 01: "Asked alone, .. one under 6 is not accepted. Address rule, first that applies: receive-all set, accept; destination of six bytes FF, accept; lowest
 -- bit of the first destination byte set, accept exactly if all-multicast is selected; otherwise accept exactly if the six bytes equal the station address."
@@ -51,7 +52,7 @@ firstMet filter frame =
     if ltb (length frame) 6 then NotTaken else
     if receiveAll (filter .mcr) then ReceiveAll else
     if same (destination frame) broadcast then Broadcast else
-    if toGroup frame then (if acceptsGroup filter (destination frame) then Group else NotTaken) else
+    if toGroup frame then groupRule filter (destination frame) else
     if same (destination frame) (stationAddress (filter .mah) (filter .mal)) then Own else
     NotTaken
 

@@ -2,7 +2,7 @@
 ghost use mathlib.Core.Path.{_≡_};
 ghost use Rattle.fcs.specs.Bytes.{same};
 ghost use Rattle.reason.specs.Reason.{reasonNumber};
-ghost use Rattle.address_rule.specs.AddressRule.{acceptsGroup, addressRule};
+ghost use Rattle.address_rule.specs.AddressRule.{groupRule, addressRule};
 use filter::Filter;
 use reason::Reason;
 
@@ -24,14 +24,20 @@ fn same(a: &[u8], b: &[u8]) -> bool
 }
 
 // The group branch of the address rule: by the hash registers where the mode says so.
-fn accepts_group(filter: Filter, address: &[u8]) -> bool
-    ensures { λ r. ⌜ r ≡ acceptsGroup filter (now (address .entry)) ⌝ }
+fn group(filter: Filter, address: &[u8]) -> Reason
+    ensures { λ r. ⌜ reasonNumber r ≡ reasonNumber (groupRule filter (now (address .entry))) ⌝ }
 {
     let mode = filter::filter_mode(filter.mcr);
     if mode == Filter::MULTICAST_HASH {
-        return hash::accepts(filter.mcha, filter.mcla, address);
+        if hash::accepts(filter.mcha, filter.mcla, address) {
+            return Reason::Group;
+        }
+        return Reason::NotTaken;
     }
-    mode == Filter::ALL_MULTICAST
+    if mode == Filter::ALL_MULTICAST {
+        return Reason::Group;
+    }
+    Reason::NotTaken
 }
 
 // The address rule: the first that applies takes the frame, or turns it away. Under six bytes there is
@@ -49,10 +55,7 @@ pub fn apply(filter: Filter, frame: &[u8]) -> Reason
         return Reason::Broadcast;
     }
     if frame[0] % 2 == 1 {
-        if accepts_group(filter, &frame[..6]) {
-            return Reason::Group;
-        }
-        return Reason::NotTaken;
+        return group(filter, &frame[..6]);
     }
     let station = filter::station_address(filter.mah, filter.mal);
     if same(&frame[..6], &station) {

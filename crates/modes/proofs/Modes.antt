@@ -13,20 +13,23 @@ use Rattle.reason.specs.declared.Reason.{Reason}
 use Rattle.reason.specs.declared.Reason.the-variants.{NotTaken, Own, Broadcast, Group, ReceiveAll}
 use Rattle.reason.specs.Reason.{reasonNumber}
 use Rattle.filter.specs.Meaning.{stationAddress}
-use Rattle.address_rule.specs.AddressRule.{destination, broadcast, toGroup, acceptsGroup, firstMet}
+use Rattle.address_rule.specs.AddressRule.{destination, broadcast, toGroup, groupRule, firstMet}
 use Rattle.modes.specs.Modes.{HashAcceptsAs, OnesAsAllMulticast, ZerosAsNoMulticast}
 
 -- the group branch by its parts: filter mode, hash registers, destination
-abbrev group : ℕ → ℕ → ℕ → List ℕ → Bool
-group mode high low address = if eqb mode 1 then hashAccepts high low address else eqb mode 5
+abbrev group : ℕ → ℕ → ℕ → List ℕ → Reason
+group mode high low address =
+    if eqb mode 1 then (if hashAccepts high low address then Group else NotTaken) else
+    if eqb mode 5 then Group else
+    NotTaken
 
 -- the address rule by its parts: receive-all, what the group branch says, the station address
-abbrev rule : Bool → Bool → List ℕ → List ℕ → Reason
+abbrev rule : Bool → Reason → List ℕ → List ℕ → Reason
 rule all grouped station frame =
     if ltb (length frame) 6 then NotTaken else
     if all then ReceiveAll else
     if same (destination frame) broadcast then Broadcast else
-    if toGroup frame then (if grouped then Group else NotTaken) else
+    if toGroup frame then grouped else
     if same (destination frame) station then Own else
     NotTaken
 
@@ -34,9 +37,11 @@ as-mode : (v mode : ℕ) → eqb mode 1 ≡ false → ((address : List ℕ) → 
 unfolding firstMet
 as-mode v mode other h f g one hashed high low m frame =
     let d = destination frame in
-    let e : acceptsGroup f d ≡ eqb mode 5 = (λ j. group (hashed j) (high j) (low j) d) ∙ h d in
-    let k : acceptsGroup g d ≡ eqb mode 5 =
-    (λ j. group (m j) (g .mcha) (g .mcla) d) ∙ ap (λ (t : Bool). if t then hashAccepts (g .mcha) (g .mcla) d else eqb mode 5) other in
+    let t : Reason = if eqb mode 5 then Group else NotTaken in
+    let e : groupRule f d ≡ t = (λ j. group (hashed j) (high j) (low j) d) ∙ ap (λ (x : Bool). if x then Group else NotTaken) (h d) in
+    let k : groupRule g d ≡ t =
+    (λ j. group (m j) (g .mcha) (g .mcla) d)
+    ∙ ap (λ (x : Bool). if x then (if hashAccepts (g .mcha) (g .mcla) d then Group else NotTaken) else t) other in
     λ j. reasonNumber (rule (one .all j) ((e ∙ sym k) j) (stationAddress (one .high j) (one .low j)) frame)
 
 pub ones-as-all-multicast : OnesAsAllMulticast

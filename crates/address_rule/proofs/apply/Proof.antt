@@ -2,7 +2,7 @@
 use borrow.Author.Needs.{needs}
 use native.Mathlib.Omega.{arith}
 use lib.ListN.{length-take}
-use Rattle.address_rule.proofs.Exits.{short-not-taken, by-receive-all, by-broadcast, by-group, group-not-taken, by-station, other-station}
+use Rattle.address_rule.proofs.Exits.{short-not-taken, by-receive-all, by-broadcast, by-group, by-station, other-station}
 use Rattle.address_rule.proofs.apply.Statement.{statement}
 use Rattle.address_rule.proofs.apply.Tie as tie
 
@@ -21,7 +21,6 @@ apply-spec =
     (λ c. simp length-take (omega arith))
     (λ c κs. tt)
     (λ c. search by-group)
-    (λ c. search group-not-taken)
     (λ c κs. tt)
     (λ c. simp length-take (omega arith))
     (λ c. search needs)
