@@ -18,8 +18,8 @@
  *
  *   good.bin: 64 bytes, check right, accepted: own address
  *
- * with own address, broadcast, group or receive-all behind accepted, or with
- * not accepted in place of both.
+ * where the reason is own address, broadcast, group or receive-all; or, for a
+ * frame that the rule does not take, not accepted without a reason.
  *
  * Exit status: 0; 1 where a frame could not be read or the output not written;
  * 2 for a usage error.

@@ -57,7 +57,8 @@ pub fn apply(filter: Filter, frame: &[u8]) -> Reason
     if frame[0] % 2 == 1 {
         return group(filter, &frame[..6]);
     }
-    let station = filter::station_address(filter.mah, filter.mal);
+    let own = filter::station_address(filter.mah, filter.mal);
+    let station = own.bytes;
     if same(&frame[..6], &station) {
         return Reason::Own;
     }

@@ -11,6 +11,11 @@ pub struct Filter {
     pub mcla: u32,
 }
 
+// A station address, its bytes in the order in which they are sent.
+pub struct Station {
+    pub bytes: [u8; 6],
+}
+
 impl Filter {
     // Receive all, bit 31 of MAC control (RM0006 8.4.21).
     pub const RA: u32 = 0x8000_0000;
@@ -43,15 +48,17 @@ pub fn filter_mode(control: u32) -> u32
 }
 
 // The station address as on the wire.
-pub fn station_address(high: u32, low: u32) -> [u8; 6]
-    ensures { λ r. ⌜ r ≡ stationAddress high low ⌝ }
+pub fn station_address(high: u32, low: u32) -> Station
+    ensures { λ r. ⌜ r .bytes ≡ stationAddress high low ⌝ }
 {
-    [
-        (low % 0x100) as u8,
-        (low / 0x100 % 0x100) as u8,
-        (low / 0x1_0000 % 0x100) as u8,
-        (low / 0x100_0000 % 0x100) as u8,
-        (high % 0x100) as u8,
-        (high / 0x100 % 0x100) as u8,
-    ]
+    Station {
+        bytes: [
+            (low % 0x100) as u8,
+            (low / 0x100 % 0x100) as u8,
+            (low / 0x1_0000 % 0x100) as u8,
+            (low / 0x100_0000 % 0x100) as u8,
+            (high % 0x100) as u8,
+            (high / 0x100 % 0x100) as u8,
+        ],
+    }
 }

@@ -14,7 +14,7 @@ use Rattle.reason.specs.declared.Reason.the-variants.{NotTaken, Own, Broadcast,
 use Rattle.reason.specs.Reason.{reasonNumber}
 use Rattle.filter.specs.Meaning.{stationAddress}
 use Rattle.address_rule.specs.AddressRule.{destination, broadcast, toGroup, groupRule, firstMet}
-use Rattle.modes.specs.Modes.{HashAcceptsAs, OnesAsAllMulticast, ZerosAsNoMulticast}
+use Rattle.modes.specs.Modes.{HashTakesAs, OnesAsAllMulticast, ZerosAsNoMulticast}
 
 -- the group branch by its parts: filter mode, hash registers, destination
 abbrev group : ℕ → ℕ → ℕ → List ℕ → Reason
@@ -33,7 +33,7 @@ rule all grouped station frame =
     if same (destination frame) station then Own else
     NotTaken
 
-as-mode : (v mode : ℕ) → eqb mode 1 ≡ false → ((address : List ℕ) → hashAccepts v v address ≡ eqb mode 5) → HashAcceptsAs v mode
+as-mode : (v mode : ℕ) → eqb mode 1 ≡ false → ((address : List ℕ) → hashAccepts v v address ≡ eqb mode 5) → HashTakesAs v mode
 unfolding firstMet
 as-mode v mode other h f g one hashed high low m frame =
     let d = destination frame in

@@ -13,8 +13,8 @@ pub record OneStation (f g : Filter) : Type 0 where
   pub low : f .mal ≡ g .mal
 
 -- with v in both hash registers the mode 001b takes the frames that another mode takes, each for the same reason, and no others
-abbrev pub HashAcceptsAs : ℕ → ℕ → Type 0
-HashAcceptsAs v mode =
+abbrev pub HashTakesAs : ℕ → ℕ → Type 0
+HashTakesAs v mode =
     (f g : Filter) → OneStation f g
     → filterMode (f .mcr) ≡ 1
     → f .mcha ≡ v
@@ -25,8 +25,8 @@ HashAcceptsAs v mode =
 
 -- all ones: as mode 101b, all-multicast
 abbrev pub OnesAsAllMulticast : Type 0
-OnesAsAllMulticast = HashAcceptsAs 0xffff_ffff 5
+OnesAsAllMulticast = HashTakesAs 0xffff_ffff 5
 
 -- all zero: as mode 000b, which takes no group
 abbrev pub ZerosAsNoMulticast : Type 0
-ZerosAsNoMulticast = HashAcceptsAs 0 0
+ZerosAsNoMulticast = HashTakesAs 0 0

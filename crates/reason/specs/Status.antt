@@ -14,6 +14,6 @@ reasonBits reason =
     0
 
 -- 01: "the packet status word: frame length, VALID returned, other bits 0". 02: "The status word's "other bits 0" in document 01 is amended so": the
--- reason's bit, the length in bits 10 to 0, and 0 in VALID, bit 16, and in every other
+-- reason's bit, the frame length, which is under 2,048, in bits 10 to 0, and 0 in VALID, bit 16, and in every other
 unfoldable pub deliveredStatus : ℕ → ℕ → ℕ
 deliveredStatus reason n = reasonBits reason + n

@@ -26,8 +26,8 @@ received c m = record { number = c .number; registers = c .registers; memory = m
 abbrev pub leaves : ℕ → Registers → List ℕ → Received
 leaves n r m = record { number = n; registers = r; memory = m }
 
--- what a frame leaves, by its number: 0 delivers it, with `reason`, what the address rule answers. The next word is the descriptor's own: a frame never lies over its own
--- descriptor, so it is the same before and after the delivery
+-- what a frame leaves, by its number: 0 delivers it, with `reason`, what the address rule answers. The next word is the
+-- descriptor's own: a frame never lies over its own descriptor, so it is the same before and after the delivery
 abbrev pub receivedBy : ℕ → Registers → ℕ → ℕ → List ℕ → List ℕ → ℕ → Received
 receivedBy base r place reason m f n =
     if eqb n 0

@@ -1,4 +1,4 @@
--- The two ways out of each function: a call's yes is 1, its no is 0. Assumes nothing.
+-- The two ways out of the frame check: a call's yes is 1, its no is 0. Assumes nothing.
 use mathlib.Core.Path.{_≡_, refl}
 use mathlib.Core.Bool.{Bool, true, false}
 use Prim.Native.Nat.{ℕ}

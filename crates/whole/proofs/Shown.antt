@@ -1,4 +1,4 @@
--- A frame that lies whole is shown, whatever the reason for which it was taken. Assumes nothing.
+-- A frame that lies whole is what a reading gives, whatever the reason for which it was taken. Assumes nothing.
 use Prim.Native.Nat.{ℕ, _-_, _%_}
 use mathlib.Core.Path.{_≡_, sym, ap, _∙_}
 use mathlib.Core.Bool.{false}

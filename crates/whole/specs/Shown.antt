@@ -1,5 +1,5 @@
--- 01, "Reading a delivered frame", of a frame that lies whole in a granted buffer. 02 puts the reason for which it was taken beside its length, and a
--- reading shows it all the same. Assumes nothing.
+-- 01, "Reading a delivered frame", of a frame that lies whole in a granted buffer. 02 puts the reason for which it was taken beside its length; a reading
+-- of its descriptor gives it all the same. Assumes nothing.
 use Prim.Native.Nat.{ℕ, _-_}
 use mathlib.Core.Path.{_≡_}
 use mathlib.Core.Bool.{true}
