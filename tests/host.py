@@ -12,29 +12,43 @@ import zlib
 
 import frames
 
-# name, frame, check right, accepted: with all modes off, receive-all, all-multicast, and by a hash table with bit 3 alone
-CASES = [
-    ('empty', b'', False, False, False, False, False),
-    ('three', b'\xff\xff\xff', False, False, False, False, False),
-    ('four-zeros', bytes(4), True, False, False, False, False),
-    ('five', frames.closed(b'\x02'), True, False, False, False, False),
-    ('six', frames.STATION, False, True, True, True, True),
-    ('six-right', frames.closed(b'\x02\x00'), True, False, True, False, False),
-    ('good-64', frames.frame(64), True, True, True, True, True),
-    ('good-1518', frames.frame(1518), True, True, True, True, True),
-    ('good-1519', frames.frame(1519), True, True, True, True, True),
-    ('big', frames.frame(3000000), True, True, True, True, True),
-    ('big-wrong', frames.flipped(frames.frame(3000000), 12345678), False, True, True, True, True),
-    ('wrong', frames.flipped(frames.frame(64), 400), False, True, True, True, True),
-    ('other-station', frames.frame(64, frames.OTHER), True, False, True, False, False),
-    ('backwards', frames.frame(64, frames.REVERSED), True, False, True, True, False),
-    ('nearly-broadcast', frames.frame(64, frames.NEARLY_BROADCAST), True, False, True, True, False),
-    ('broadcast', frames.frame(64, frames.BROADCAST), True, True, True, True, True),
-    ('group', frames.frame(64, frames.GROUP), True, False, True, True, True),
-    ('group-of-five', frames.GROUP[:5], False, False, False, False, False),
-    ('group-of-six', frames.GROUP, False, False, True, True, True),
-]
+# why a frame is accepted, as the host words it, or nothing
+OWN, BROADCAST, GROUP, ALL, NO = 'own address', 'broadcast', 'group', 'receive-all', None
+
+# answers with all modes off, receive-all, all-multicast, and by a hash table with bit 3 alone
+TO_STATION = [OWN, ALL, OWN, OWN]
+TO_EVERYBODY = [BROADCAST, ALL, BROADCAST, BROADCAST]
+TO_GROUP = [NO, ALL, GROUP, GROUP]
+TO_OTHER_GROUP = [NO, ALL, GROUP, NO]
+TO_OTHER = [NO, ALL, NO, NO]
+TO_NOBODY = [NO, NO, NO, NO]
 MODES = [[], ['-a'], ['-m'], ['-x', '-L', '8']]
+
+# name, frame, check right, answers
+CASES = [
+    ('empty', b'', False, TO_NOBODY),
+    ('three', b'\xff\xff\xff', False, TO_NOBODY),
+    ('four-zeros', bytes(4), True, TO_NOBODY),
+    ('five', frames.closed(b'\x02'), True, TO_NOBODY),
+    ('five-of-broadcast', frames.BROADCAST[:5], False, TO_NOBODY),
+    ('six', frames.STATION, False, TO_STATION),
+    ('six-right', frames.closed(b'\x02\x00'), True, TO_OTHER),
+    ('six-of-broadcast', frames.BROADCAST, False, TO_EVERYBODY),
+    ('good-64', frames.frame(64), True, TO_STATION),
+    ('good-1518', frames.frame(1518), True, TO_STATION),
+    ('good-1519', frames.frame(1519), True, TO_STATION),
+    ('big', frames.frame(3000000), True, TO_STATION),
+    ('big-wrong', frames.flipped(frames.frame(3000000), 12345678), False, TO_STATION),
+    ('wrong', frames.flipped(frames.frame(64), 400), False, TO_STATION),
+    ('other-station', frames.frame(64, frames.OTHER), True, TO_OTHER),
+    ('backwards', frames.frame(64, frames.REVERSED), True, TO_OTHER_GROUP),
+    ('nearly-broadcast', frames.frame(64, frames.NEARLY_BROADCAST), True, TO_OTHER_GROUP),
+    ('broadcast', frames.frame(64, frames.BROADCAST), True, TO_EVERYBODY),
+    ('broadcast-wrong', frames.flipped(frames.frame(64, frames.BROADCAST), 400), False, TO_EVERYBODY),
+    ('group', frames.frame(64, frames.GROUP), True, TO_GROUP),
+    ('group-of-five', frames.GROUP[:5], False, TO_NOBODY),
+    ('group-of-six', frames.GROUP, False, TO_GROUP),
+]
 RANDOM_MODES = [[], ['-a'], ['-m'], ['-a', '-m'], ['-x'], ['-x'], ['-x'], ['-a', '-x']]
 
 # published values of the check
@@ -57,8 +71,23 @@ HASHES = [
     ('33-33-00-00-00-01', 0xf99baaba, 62),
     ('01-00-00-00-00-00', 0x9fb186a1, 39),
 ]
-# what the hash has no say in, and whether it is accepted; the broadcast would be bit 63
-OTHERS = [('broadcast', True), ('good-64', True), ('other-station', False)]
+# what the hash has no say in, and why it is accepted; the broadcast would be bit 63
+OTHERS = [('broadcast', BROADCAST), ('good-64', OWN), ('other-station', NO)]
+
+# words, and what is written for the one file behind them: the rule asks for broadcast and groups before the station
+STATIONS = [
+    (['-s', '02-00-00-00-00-02', 'good-64'], NO),
+    (['-s', '02-00-00-00-00-02', 'other-station'], OWN),
+    (['-s', '02-00-00-00-00-02', '-a', 'other-station'], ALL),
+    (['-s', 'ff-ff-ff-ff-ff-ff', 'broadcast'], BROADCAST),
+    (['-s', 'ff-ff-ff-ff-ff-ff', '-a', 'broadcast'], ALL),
+    (['-s', 'ff-ff-ff-ff-ff-ff', 'good-64'], NO),
+    (['-s', '01-80-C2-00-00-01', 'group'], NO),
+    (['-s', '01-80-C2-00-00-01', '-m', 'group'], GROUP),
+    (['-s', '01-80-C2-00-00-01', '-x', 'group'], NO),
+    (['-s', '01-80-C2-00-00-01', '-x', '-L', '8', 'group'], GROUP),
+    (['-s', '01-80-C2-00-00-01', '-a', 'group'], ALL),
+]
 
 # words that are a usage error
 BAD_WORDS = [
@@ -81,9 +110,9 @@ BAD_WORDS = [
 ]
 
 
-def line(name, data, right, accepted):
+def line(name, data, right, answer):
     return (f"{name}: {len(data)} bytes, check {'right' if right else 'wrong'}, "
-            f"{'accepted' if accepted else 'not accepted'}\n")
+            f"{f'accepted: {answer}' if answer else 'not accepted'}\n")
 
 
 def check_right(data):
@@ -91,16 +120,19 @@ def check_right(data):
     return len(data) >= 4 and zlib.crc32(data[:-4]) == int.from_bytes(data[-4:], 'little')
 
 
-def accepted(data, station, mode, table=0):
-    """The address rule, written anew. The hash table has 64 bits, those of the high register first."""
+def reason(data, station, mode, table=0):
+    """The address rule, written anew: the first line that takes a frame is why. The hash table has 64 bits, those of the high
+    register first."""
     to = data[:6]
     if len(to) < 6:
-        return False
-    if '-a' in mode or to == frames.BROADCAST:
-        return True
+        return NO
+    if '-a' in mode:
+        return ALL
+    if to == frames.BROADCAST:
+        return BROADCAST
     if to[0] & 1:
-        return '-m' in mode or '-x' in mode and table >> frames.hash_index(to) & 1 == 1
-    return to == station
+        return GROUP if '-m' in mode or '-x' in mode and table >> frames.hash_index(to) & 1 else NO
+    return OWN if to == station else NO
 
 
 def by_zlib(data):
@@ -111,6 +143,12 @@ def by_zlib(data):
 def hash_words(table):
     """The options that set a hash table."""
     return ['-H', f'{table >> 32:x}', '-L', f'{table & 0xffffffff:08X}']
+
+
+def random_station(source):
+    """Most are single addresses: a group and the broadcast address are never taken as the station's own."""
+    first, rest = source.randrange(256), source.randbytes(5)
+    return source.choice([frames.BROADCAST, bytes([first | 1]) + rest] + 4 * [bytes([first & 0xfe]) + rest])
 
 
 def random_frame(source, station):
@@ -150,18 +188,19 @@ class Tests:
         for name, data, *_ in CASES:
             self.write(name, data)
         for k, mode in enumerate(MODES):
-            for name, data, right, *answers in CASES:
+            for name, data, right, answers in CASES:
+                self.note(f'the rule on {name} {mode}', reason(data, frames.STATION, mode, 8) == answers[k], answers[k])
                 self.expect(f'{name} {mode}', mode + [name], b'', 0, line(name, data, right, answers[k]))
                 self.expect(f'{name} {mode}, standard input', mode, data, 0, line('-', data, right, answers[k]))
-            everything = ''.join(line(name, data, right, answers[k]) for name, data, right, *answers in CASES)
+            everything = ''.join(line(name, data, right, answers[k]) for name, data, right, answers in CASES)
             self.expect(f'all files {mode}', mode + [name for name, *_ in CASES], b'', 0, everything)
         for message, check in VECTORS:
             data = message + check.to_bytes(4, 'little')
-            self.expect(f'vector {message!r}', [], data, 0, line('-', data, True, accepted(data, frames.STATION, [])))
+            self.expect(f'vector {message!r}', [], data, 0, line('-', data, True, reason(data, frames.STATION, [])))
 
     def hashed(self, title, mode, taken):
         """One run over a frame for each group, of which these are taken, and over what the hash has no say in."""
-        wanted = [(name, name in taken) for name, *_ in HASHES] + OTHERS
+        wanted = [(name, GROUP if name in taken else NO) for name, *_ in HASHES] + OTHERS
         self.expect(f'{title} {mode}', mode + [name for name, _ in wanted], b'', 0,
                     ''.join(line(name, bytes(64), True, answer) for name, answer in wanted))
 
@@ -187,38 +226,40 @@ class Tests:
         self.hashed('hash registers with all-multicast', ['-m'] + hash_words(0), groups)
         everything = groups + [name for name, _ in OTHERS]
         self.expect('receive-all and the hash', ['-a', '-x'] + everything, b'', 0,
-                    ''.join(line(name, bytes(64), True, True) for name in everything))
+                    ''.join(line(name, bytes(64), True, ALL) for name in everything))
 
     def randoms(self):
         source = random.Random(1518)
-        decided, differing = {False: 0, True: 0}, []
-        for k in range(80):
-            station, mode, table = source.randbytes(6), source.choice(RANDOM_MODES), source.getrandbits(64)
+        met, decided, differing = dict.fromkeys([OWN, BROADCAST, GROUP, ALL, NO], 0), {NO: 0, GROUP: 0}, []
+        for k in range(100):
+            station, mode, table = random_station(source), source.choice(RANDOM_MODES), source.getrandbits(64)
             given = [random_frame(source, station) for _ in range(25)]
             wanted = ''
             for n, data in enumerate(given):
                 self.write(f'random-{n}', data)
-                taken = accepted(data, station, mode, table)
-                wanted += line(f'random-{n}', data, check_right(data), taken)
+                answer = reason(data, station, mode, table)
+                wanted += line(f'random-{n}', data, check_right(data), answer)
+                met[answer] += 1
                 if mode == ['-x'] and len(data) >= 6 and data[0] & 1 and data[:6] != frames.BROADCAST:
-                    decided[taken] += 1
+                    decided[answer] += 1
                 differing += [data[:6].hex('-')] if frames.register(data[:6]) != by_zlib(data[:6]) else []
             self.expect(f'25 random frames, {k}', mode + ['-s', station.hex('-')] + hash_words(table)
                         + [f'random-{n}' for n in range(25)], b'', 0, wanted)
         self.note('registers of random frames', not differing, differing)
+        self.note('random frames accepted for each reason, and not', min(met.values()) >= 50, met)
         self.note('random groups taken by the hash, and not', min(decided.values()) >= 50, decided)
 
     def words(self):
         good = frames.frame(64)
-        self.expect('a station', ['-s', '02-00-00-00-00-02', 'good-64', 'other-station'], b'', 0,
-                    line('good-64', good, True, False) + line('other-station', good, True, True))
+        for words, answer in STATIONS:
+            self.expect(f'a station {words}', words, b'', 0, line(words[-1], good, True, answer))
         self.expect('a station of six different bytes', ['-s', 'A2-bc-DE-f0-12-34'], frames.frame(70, bytes.fromhex('a2bcdef01234')), 0,
-                    line('-', bytes(70), True, True))
-        self.expect('both modes', ['-a', '-m', 'group'], b'', 0, line('group', good, True, True))
-        self.expect('a mode twice', ['-m', '-m', 'group'], b'', 0, line('group', good, True, True))
-        self.expect('a file and standard input', ['group', '-'], good, 0, line('group', good, True, False) + line('-', good, True, True))
-        self.expect('no option behind --', ['--', 'group', '-x'], b'', 1, line('group', good, True, False))
-        self.expect('no such file', ['missing', 'good-64'], b'', 1, line('good-64', good, True, True))
+                    line('-', bytes(70), True, OWN))
+        self.expect('both modes', ['-a', '-m', 'group'], b'', 0, line('group', good, True, ALL))
+        self.expect('a mode twice', ['-m', '-m', 'group'], b'', 0, line('group', good, True, GROUP))
+        self.expect('a file and standard input', ['group', '-'], good, 0, line('group', good, True, NO) + line('-', good, True, OWN))
+        self.expect('no option behind --', ['--', 'group', '-x'], b'', 1, line('group', good, True, NO))
+        self.expect('no such file', ['missing', 'good-64'], b'', 1, line('good-64', good, True, OWN))
         for title, words in BAD_WORDS:
             self.expect(title, words, b'', 2, '')
 

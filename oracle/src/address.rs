@@ -1,6 +1,7 @@
 //! The address rule, on the numbers that the registers hold.
 
 use crate::hash;
+use crate::reason::Reason;
 
 /// MAC control: receive all, RA.
 pub const RECEIVE_ALL: u32 = 1 << 31;
@@ -60,27 +61,39 @@ impl Filter {
         self.control >> FILTER_MODE_SHIFT & 0b111
     }
 
-    /// Whether a station with these registers takes the frame.
-    pub fn accepts(&self, frame: &[u8]) -> bool {
-        let Some(destination) = frame.first_chunk::<6>() else {
-            return false;
-        };
+    /// Why a station with these registers takes the frame, "by first rule met", or nothing if it does
+    /// not: "receive-all set, accept; destination of six bytes FF, accept; lowest bit of the first
+    /// destination byte set, accept exactly if all-multicast is selected; otherwise accept exactly if
+    /// the six bytes equal the station address". A frame under 6 bytes is not taken.
+    pub fn reason(&self, frame: &[u8]) -> Option<Reason> {
+        let destination = frame.first_chunk::<6>()?;
         if self.receive_all() {
-            return true;
+            return Some(Reason::ReceiveAll);
         }
         if destination.iter().all(|byte| *byte == 0xFF) {
-            return true;
+            return Some(Reason::Broadcast);
         }
         if destination[0] % 2 == 1 {
             // The hash mode "replaces only the group branch of the address rule; receive-all and
-            // broadcast still come first".
-            return match self.mode() {
+            // broadcast still come first". What the hash takes is a group like any other.
+            let selected = match self.mode() {
                 ALL_MULTICAST_MODE => true,
                 HASH_MODE => hash::selected(*destination, self.hash_high, self.hash_low),
                 _ => false,
             };
+            return selected.then_some(Reason::Group);
         }
-        *destination == self.station()
+        (*destination == self.station()).then_some(Reason::Own)
+    }
+
+    /// What the C function answers: 1 to 4 by the reason, 0 for not taken.
+    pub fn answer(&self, frame: &[u8]) -> u32 {
+        Reason::number(self.reason(frame))
+    }
+
+    /// Whether a station with these registers takes the frame.
+    pub fn accepts(&self, frame: &[u8]) -> bool {
+        self.answer(frame) != 0
     }
 
     /// Whether the hash registers decide about the frame. For the tallies: the rule does not use it.

@@ -3,6 +3,7 @@
 use crate::address::Filter;
 use crate::check;
 use crate::numbers::{DONE, FRAME_ADDRESS, FRAME_CHECK, FRAME_LENGTH};
+use crate::reason::Reason;
 
 /// The station of the verdict program, in wire order.
 pub const STATION: [u8; 6] = [0x02, 0, 0, 0, 0, 0x01];
@@ -15,17 +16,20 @@ pub fn length_allowed(length: usize) -> bool {
     (64..=1_518).contains(&length)
 }
 
+/// Why a frame passes with these registers, or the first of 4, 5 and 6 that it meets.
+pub fn passing(frame: &[u8], filter: &Filter) -> Result<Reason, u32> {
+    if !length_allowed(frame.len()) {
+        return Err(FRAME_LENGTH);
+    }
+    if !check::right(frame) {
+        return Err(FRAME_CHECK);
+    }
+    filter.reason(frame).ok_or(FRAME_ADDRESS)
+}
+
 /// The first of 4, 5 and 6 that a frame meets with these registers, or 0.
 pub fn first_number(frame: &[u8], filter: &Filter) -> u32 {
-    if !length_allowed(frame.len()) {
-        FRAME_LENGTH
-    } else if !check::right(frame) {
-        FRAME_CHECK
-    } else if !filter.accepts(frame) {
-        FRAME_ADDRESS
-    } else {
-        DONE
-    }
+    passing(frame, filter).err().unwrap_or(DONE)
 }
 
 /// How many bytes of `input` the program takes, and its verdict on them.

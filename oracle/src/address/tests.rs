@@ -101,8 +101,60 @@ fn a_group_address_equal_to_the_station_is_still_a_group() {
     };
     assert!(!filter.accepts(&station));
     assert!(!filter.with_table(!(1 << index)).accepts(&station));
-    assert!(filter.with_table(1 << index).accepts(&station));
+    assert_eq!(filter.with_table(1 << index).answer(&station), 3);
     assert!(!Filter::of_station(station).accepts(&station));
+}
+
+#[test]
+fn the_broadcast_address_as_the_station_is_still_broadcast() {
+    for mode in 0..8 {
+        let filter = Filter {
+            control: mode << FILTER_MODE_SHIFT,
+            ..Filter::of_station(BROADCAST)
+        };
+        assert_eq!(filter.answer(&BROADCAST), 2);
+        assert_eq!(filter.with_table(u64::MAX).answer(&BROADCAST), 2);
+    }
+}
+
+/// The numbers of own, broadcast, a group that is not the hash's, one that is, and another station.
+#[test]
+fn the_first_rule_met_gives_the_number() {
+    let pause = [0x01, 0x80, 0xC2, 0x00, 0x00, 0x01];
+    let other = [2, 0, 0, 0, 0, 2];
+    let answers = |filter: Filter| {
+        [OWN, BROADCAST, ALMOST, pause, other].map(|destination| filter.answer(&destination))
+    };
+    // Bit 3 of the low register is that of the fourth.
+    let answers_in = |mode: u32| answers(filter(mode).with_table(1 << 3));
+    for mode in [0, 2, 3, 4, 6, 7] {
+        assert_eq!(answers_in(mode), [1, 2, 0, 0, 0], "{mode}");
+    }
+    assert_eq!(answers_in(HASH_MODE), [1, 2, 0, 3, 0]);
+    assert_eq!(answers_in(ALL_MULTICAST_MODE), [1, 2, 3, 3, 0]);
+    for mode in 0..8 {
+        let mut all = filter(mode).with_table(1 << 3);
+        all.control |= RECEIVE_ALL;
+        assert_eq!(answers(all), [4; 5], "{mode}");
+    }
+}
+
+#[test]
+fn accepted_is_every_number_but_0() {
+    let destinations = [OWN, ALMOST, BROADCAST, [4; 6], [5; 6], [1; 6]];
+    for control in (0..8).flat_map(|mode| [mode << 17, mode << 17 | RECEIVE_ALL]) {
+        for destination in destinations {
+            for length in 0..=6 {
+                let filter = Filter {
+                    control,
+                    ..Filter::of_station(OWN).with_table(0x5555_5555_5555_5555)
+                };
+                let frame = &destination[..length];
+                assert_eq!(filter.accepts(frame), filter.answer(frame) != 0);
+                assert_eq!(filter.accepts(frame), filter.reason(frame).is_some());
+            }
+        }
+    }
 }
 
 #[test]
@@ -122,10 +174,13 @@ fn receive_all_takes_anything_with_an_address() {
 #[test]
 fn under_six_bytes_nothing_is_accepted() {
     for (group, _) in groups() {
-        let filter = filter(HASH_MODE).with_table(u64::MAX);
-        assert!(!filter.accepts(&group[..5]));
+        let mut filter = filter(HASH_MODE).with_table(u64::MAX);
+        assert_eq!(filter.answer(&group[..5]), 0);
         assert!(!filter.asks_hash(&group[..5]));
-        assert!(filter.accepts(&group));
+        assert_eq!(filter.answer(&group), 3);
+        filter.control |= RECEIVE_ALL;
+        assert_eq!(filter.answer(&group[..5]), 0);
+        assert_eq!(filter.answer(&group), 4);
     }
 }
 

@@ -1,6 +1,6 @@
 //! Counts the answers that a comparison meets, and names those it must.
 
-use super::{bursts, hashes, polling};
+use super::{bursts, hashes, polling, reasons};
 use crate::tally::Tally;
 use std::fmt;
 
@@ -52,6 +52,7 @@ pub fn expect(tally: &mut Tally) {
     bursts::expect(tally);
     hashes::expect(tally);
     polling::expect(tally);
+    reasons::expect(tally);
     for number in 0..=16 {
         tally.expect(number_name(number));
     }
@@ -77,7 +78,10 @@ pub fn expect(tally: &mut Tally) {
 
 /// How often a kind must be met in a whole comparison.
 pub fn least(kind: &str) -> usize {
-    match hashes::least(kind).or_else(|| polling::least(kind)) {
+    let asked = hashes::least(kind)
+        .or_else(|| polling::least(kind))
+        .or_else(|| reasons::least(kind));
+    match asked {
         Some(least) => least,
         None if bursts::is_answer(kind) => bursts::ANSWER_LEAST,
         None => LEAST,

@@ -1,6 +1,7 @@
 //! Counts the frames about which the hash decided, alone and in bursts, and how its registers and
 //! the offsets beside them were reached.
 
+use super::came::Came;
 use crate::address::Filter;
 use crate::console::Call;
 use crate::numbers::{CHAIN_FAULT, DONE, FRAME_ADDRESS, NOT_GRANTED};
@@ -21,12 +22,6 @@ const BESIDE: [&str; 3] = ["40d", "411", "414"];
 /// to the descriptor.
 const AT_THE_RULE: [u32; 4] = [DONE, FRAME_ADDRESS, CHAIN_FAULT, NOT_GRANTED];
 
-#[derive(Clone, Copy)]
-enum Came {
-    Alone,
-    InABurst,
-}
-
 fn way(accepted: bool) -> &'static str {
     match accepted {
         true => "accepted by hash",
@@ -39,10 +34,7 @@ fn all_name(accepted: bool) -> String {
 }
 
 fn came_name(accepted: bool, came: Came) -> String {
-    match came {
-        Came::Alone => format!("frame alone {}", way(accepted)),
-        Came::InABurst => format!("frame in a burst {}", way(accepted)),
-    }
+    format!("frame {came} {}", way(accepted))
 }
 
 fn mode_name(mode: u32) -> String {
@@ -56,7 +48,7 @@ fn access_name(call: &str, offset: &str) -> String {
 pub fn expect(tally: &mut Tally) {
     for accepted in [false, true] {
         tally.expect(all_name(accepted));
-        for came in [Came::Alone, Came::InABurst] {
+        for came in Came::BOTH {
             tally.expect(came_name(accepted, came));
         }
     }

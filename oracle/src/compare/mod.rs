@@ -2,8 +2,10 @@
 
 pub mod answers;
 mod bursts;
+mod came;
 mod hashes;
 mod polling;
+mod reasons;
 mod shorten;
 
 pub use shorten::report;
@@ -49,13 +51,16 @@ pub fn difference(program: &Path, script: &Script, tally: &mut Tally) -> Option<
     let mut written = run.output.split_inclusive(|byte| *byte == b'\n');
     let mut console = Console::new();
     let mut watch = polling::Watch::default();
+    let mut reasons = reasons::Watch::default();
     for (place, line) in script.iter().enumerate() {
+        reasons.before(line, &console);
         let Some(wanted) = console.take(line) else {
             continue;
         };
         answers::count(tally, line, &wanted);
         hashes::count(tally, line, &wanted, &console.bench.filter());
         watch.count(tally, line, &wanted, &console);
+        reasons.count(tally, line, &wanted, &console);
         let got = written.next().unwrap_or(b"");
         if got != format!("{wanted}\n").as_bytes() {
             let got = match got {

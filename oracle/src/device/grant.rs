@@ -17,6 +17,7 @@ impl Bench {
         if descriptor.granted() {
             return ALREADY_GRANTED;
         }
+        // "Grants still write zeros": nothing of an earlier delivery is left beside VALID.
         Descriptor::write_status(&self.window, memory, address, VALID);
         DONE
     }

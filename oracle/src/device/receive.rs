@@ -5,6 +5,7 @@ use super::engine::RECEIVE;
 use super::registers::PACKET_LOST;
 use super::Bench;
 use crate::numbers::{CHAIN_FAULT, DONE, LENT_LENGTH, NOT_RUNNING};
+use crate::reason::Reason;
 use crate::verdict;
 
 impl Bench {
@@ -16,10 +17,10 @@ impl Bench {
         if !self.receiver.running {
             return NOT_RUNNING;
         }
-        let turned_away = verdict::first_number(frame, &self.filter());
-        if turned_away != DONE {
-            return turned_away;
-        }
+        let reason = match verdict::passing(frame, &self.filter()) {
+            Ok(reason) => reason,
+            Err(turned_away) => return turned_away,
+        };
         let place = self.receiver.place;
         let Some(descriptor) = Descriptor::read(&self.window, memory, place) else {
             self.receiver.running = false;
@@ -36,9 +37,16 @@ impl Bench {
             return CHAIN_FAULT;
         };
         memory[buffer].copy_from_slice(frame);
-        Descriptor::write_status(&self.window, memory, place, frame.len() as u32);
+        Descriptor::write_status(&self.window, memory, place, status(frame, reason));
         let raised = self.receiver.finish(&RECEIVE, &descriptor);
         self.registers.raise(raised);
         DONE
     }
+}
+
+/// The packet status word of a delivery: "frame length, VALID returned, other bits 0", of which "the
+/// status word's 'other bits 0' in document 01 is amended so", that the reason has its bit. Whatever
+/// stood in the word before is gone.
+fn status(frame: &[u8], reason: Reason) -> u32 {
+    frame.len() as u32 | reason.status_bits()
 }

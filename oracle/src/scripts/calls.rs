@@ -1,7 +1,7 @@
 //! Single calls with arguments worth trying.
 
 use super::writer::Writer;
-use crate::address::{BROADCAST, HASH_MODE};
+use crate::address::{ALL_MULTICAST_MODE, BROADCAST, HASH_MODE};
 use crate::frames::{self, Destination, Ending};
 use crate::{groups, hex};
 
@@ -90,9 +90,10 @@ impl Writer {
     /// A frame that passes, whatever the filter registers hold.
     pub fn passing_frame(&mut self, length: usize) -> Vec<u8> {
         let filter = self.console.bench.filter();
-        let destination = match self.random.below(3) {
+        // Most filters take no groups; then these are to everybody.
+        let destination = match self.random.below(4) {
             0 => filter.station(),
-            1 => groups::at_level(&filter, true, &mut self.random),
+            1 | 2 => groups::at_level(&filter, true, &mut self.random),
             _ => BROADCAST,
         };
         let destination = match filter.accepts(&destination) {
@@ -102,11 +103,11 @@ impl Writer {
         self.frame_with(destination, Ending::Right, length)
     }
 
-    /// A destination for the bench as it stands. Where the hash is asked, half of all are groups
-    /// that it takes or turns away.
+    /// A destination for the bench as it stands. Where groups are taken, half of all are to them, and
+    /// where the hash is asked, to those that it takes or turns away.
     fn destination(&mut self) -> [u8; 6] {
         let filter = self.console.bench.filter();
-        if filter.mode() == HASH_MODE && self.random.once_in(2) {
+        if [HASH_MODE, ALL_MULTICAST_MODE].contains(&filter.mode()) && self.random.once_in(2) {
             let level = self.random.once_in(2);
             return groups::at_level(&filter, level, &mut self.random);
         }

@@ -1,7 +1,7 @@
 //! Filter registers for scripts: stations, modes and hash tables of every kind.
 
 use super::writer::Writer;
-use crate::address::{FILTER_MODE_SHIFT, HASH_MODE, RECEIVE_ALL};
+use crate::address::{ALL_MULTICAST_MODE, FILTER_MODE_SHIFT, HASH_MODE, RECEIVE_ALL};
 use crate::groups;
 use crate::tables::Table;
 
@@ -11,12 +11,22 @@ const BESIDE: [u32; 3] = [0x40D, 0x411, 0x414];
 impl Writer {
     /// All five filter registers.
     pub fn set_filter(&mut self) {
-        let low = self.random.word();
-        let high = self.random.word();
+        let (high, low) = self.station();
         self.say(format!("write 408 {low:x}"));
         self.say(format!("write 404 {high:x}"));
         self.set_mode();
         self.set_table();
+    }
+
+    /// The registers of a station, whose first byte is the lowest one of the second. Most are single
+    /// addresses: a group or the broadcast address is never taken as the station's own.
+    fn station(&mut self) -> (u32, u32) {
+        let (high, low) = (self.random.word(), self.random.word());
+        match self.random.below(10) {
+            0 => (high, low | 1),
+            1 => (high | 0xFFFF, u32::MAX),
+            _ => (high, low & !1),
+        }
     }
 
     /// The mode or the hash table anew, in the middle of a script.
@@ -27,10 +37,12 @@ impl Writer {
         }
     }
 
-    /// Any filter mode, that of the hash most often, as it alone has more than one answer to a group.
+    /// Any filter mode, most often that of the hash, as it alone has more than one answer to a group,
+    /// and all-multicast, the other one that takes any.
     fn set_mode(&mut self) {
-        let mode = match self.random.below(2) {
-            0 => HASH_MODE,
+        let mode = match self.random.below(8) {
+            0..=2 => HASH_MODE,
+            3 | 4 => ALL_MULTICAST_MODE,
             _ => self.random.below(8) as u32,
         };
         let mut control = mode << FILTER_MODE_SHIFT;

@@ -13,6 +13,7 @@ mod malformed;
 mod malformed_bursts;
 mod polling;
 mod readings;
+mod reasons;
 mod receiving;
 mod register_access;
 mod sending;
@@ -27,7 +28,7 @@ pub use malformed::line as malformed_line;
 use writer::Writer;
 
 /// The kinds of random script.
-const KINDS: [fn(&mut Writer); 18] = [
+const KINDS: [fn(&mut Writer); 20] = [
     receiving::on_a_sound_ring,
     receiving::on_a_sound_ring,
     receiving::on_a_sound_ring,
@@ -41,6 +42,8 @@ const KINDS: [fn(&mut Writer); 18] = [
     polling::on_both_engines,
     polling::on_both_engines,
     polling::on_both_engines,
+    reasons::on_a_short_ring,
+    reasons::on_a_short_ring,
     damage::of_a_ring,
     chaos::in_a_small_window,
     readings::at_the_limits,

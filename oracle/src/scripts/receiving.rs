@@ -63,7 +63,7 @@ fn step(writer: &mut Writer, ring: &[Place], granted: &mut usize) {
         }
         8..=14 => {
             let address = ring[*granted % ring.len()].address;
-            if writer.say(format!("grant {address:x}")) == "grant 0" {
+            if grant(writer, address) {
                 *granted += 1;
             }
         }
@@ -106,13 +106,32 @@ fn step(writer: &mut Writer, ring: &[Place], granted: &mut usize) {
     }
 }
 
-/// After a frame: the descriptor, the frame shown, and the memory's check.
+/// Grants a descriptor, by the call and at times by the firmware's own write, which may leave any bits
+/// beside VALID; and often looks at what it left. Gives whether it was returned before.
+pub fn grant(writer: &mut Writer, address: u32) -> bool {
+    let returned = writer.word(address.wrapping_add(12)) & layout::VALID == 0;
+    match writer.random.below(8) {
+        0 => writer.grant_by_poke(address),
+        _ => {
+            writer.say(format!("grant {address:x}"));
+        }
+    }
+    if writer.random.once_in(3) {
+        writer.peek_status(address);
+    }
+    returned
+}
+
+/// After a frame: the status word at least, or the descriptor, the frame shown, and the memory's
+/// check.
 pub fn look_at(writer: &mut Writer, place: u32) {
     writer.say("state");
     if writer.random.once_in(2) {
         writer.say(format!("peek {place:x} 16"));
         writer.say(format!("show {place:x}"));
         writer.say("check");
+    } else {
+        writer.peek_status(place);
     }
     if writer.random.once_in(8) {
         let start = writer.word(place.wrapping_add(4));

@@ -2,6 +2,7 @@
 
 use crate::compare::Script;
 use crate::console::Console;
+use crate::device::VALID;
 use crate::hex;
 use crate::random::Random;
 
@@ -51,6 +52,17 @@ impl Writer {
             }
             None => 0,
         }
+    }
+
+    /// Looks at the packet status word of the descriptor at `address`.
+    pub fn peek_status(&mut self, address: u32) {
+        self.say(format!("peek {:x} 4", address.wrapping_add(12)));
+    }
+
+    /// Gives a descriptor to the DMA by the firmware's own write, with any bits beside VALID.
+    pub fn grant_by_poke(&mut self, address: u32) {
+        let status = self.random.word() | VALID;
+        self.poke_word(address.wrapping_add(12), status);
     }
 
     pub fn base(&self) -> u32 {

@@ -1,7 +1,9 @@
 //! The generators make what they say.
 
 use super::*;
+use crate::delivered::Delivered;
 use crate::random::Random;
+use crate::taken::Taken;
 use crate::trace;
 use crate::ungranted::Ungranted;
 
@@ -46,6 +48,29 @@ fn good_traces_meet_every_kind_of_8() {
     for kind in Ungranted::all() {
         let count = met.iter().filter(|other| **other == kind).count();
         assert!(count > 50, "{kind}: {count}");
+    }
+}
+
+#[test]
+fn good_traces_deliver_by_every_reason() {
+    let mut random = Random::new(18);
+    let mut met = Vec::new();
+    for _ in 0..400 {
+        let tape = good(&mut random);
+        let content = trace::content(&tape.bytes).expect("a good trace has no bad block");
+        let Header { base, length } = content.header;
+        let (list, output) = (content.events, vec![0; 1_518]);
+        let all = Delivered::in_events(base, length.into(), &list, tape.image, output);
+        met.extend(all);
+    }
+    for taken in Taken::ALL {
+        let of = |left: bool| {
+            let wanted = Delivered { taken, left };
+            met.iter().filter(|other| **other == wanted).count()
+        };
+        let (overwritten, left) = (of(false), of(true));
+        assert!(overwritten + left > 20, "{taken}: {overwritten}, {left}");
+        assert!(left > 5, "{taken}: {left}");
     }
 }
 

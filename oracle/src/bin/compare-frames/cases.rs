@@ -2,6 +2,7 @@
 
 use crate::compare::Comparison;
 use crate::{expected, filters};
+use oracle::address::BROADCAST;
 use oracle::frames::{self, Destination, Ending};
 use oracle::random::Random;
 use oracle::{check, verdict};
@@ -27,9 +28,12 @@ pub fn random_frames(comparison: &mut Comparison, random: &mut Random) -> Result
             0 => Ending::Right,
             _ => random.pick(&Ending::ALL),
         };
-        // And many are to a group, of which the hash may be asked.
-        let destination = match random.below(3) {
-            0 => Destination::Group,
+        // And many are to a group, of which the hash may be asked, or to what the other lines of the
+        // address rule take.
+        let destination = match random.below(8) {
+            0 | 1 => Destination::Group,
+            2 => Destination::Own,
+            3 => Destination::Broadcast,
             _ => random.pick(&Destination::ALL),
         };
         let length = frames::length(random);
@@ -49,14 +53,16 @@ pub fn random_frames(comparison: &mut Comparison, random: &mut Random) -> Result
     Ok(())
 }
 
-/// Single addresses and group addresses, and now and then the verdict program's.
+/// Single addresses most often, now and then the verdict program's; and those that are never taken as
+/// the station's own, group addresses and the broadcast one.
 fn random_station(random: &mut Random) -> [u8; 6] {
-    let mut station = verdict::STATION;
-    if !random.once_in(4) {
-        station.copy_from_slice(&random.bytes(6));
-        if !random.once_in(8) {
-            station[0] &= 0xFE;
-        }
+    let mut station = [0; 6];
+    station.copy_from_slice(&random.bytes(6));
+    match random.below(8) {
+        0 => return BROADCAST,
+        1 => station[0] |= 1,
+        2 | 3 => return verdict::STATION,
+        _ => station[0] &= 0xFE,
     }
     station
 }
@@ -70,11 +76,11 @@ fn functions(
 ) -> Result<(), String> {
     comparison.frame_check(frame, check::right(frame).into())?;
     let filter = filters::random_filter(frame, station, random, &mut comparison.tally);
-    let accepted = filter.accepts(frame);
     if filter.asks_hash(frame) {
+        let accepted = filter.accepts(frame);
         comparison.tally.met(expected::by_hash_name(accepted));
     }
-    comparison.address_rule(frame, &filter, accepted.into())
+    comparison.address_rule(frame, &filter, filter.answer(frame))
 }
 
 /// The verdict program at every boundary length, with each kind of destination and check sequence.

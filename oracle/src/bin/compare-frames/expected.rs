@@ -2,12 +2,33 @@
 
 use oracle::frames::{Destination, Ending};
 use oracle::tables::Table;
+use oracle::taken::Taken;
 use oracle::tally::Tally;
+use oracle::telling;
 
 /// How often the hash must have decided in each way.
 const BY_HASH_LEAST: usize = 2_000;
 /// How often each filter mode must be met.
 const MODE_LEAST: usize = 1_000;
+/// How often the address rule must answer each number, a group by all-multicast and by hash too.
+const ANSWER_LEAST: usize = 2_000;
+/// How often each case must be met that tells the order of the rule's lines.
+const CASE_LEAST: usize = 100;
+
+/// What the C address rule answers: 0, or 1 to 4 by the reason.
+const ANSWERS: [u32; 5] = [0, 1, 2, 3, 4];
+
+pub fn answer_name(number: u32) -> String {
+    format!("C address rule {number}")
+}
+
+pub fn taken_name(taken: Taken) -> String {
+    format!("frame taken: {taken}")
+}
+
+pub fn case_name(case: &str) -> String {
+    format!("case: {case}")
+}
 
 /// A group frame in the hash mode, neither receive-all nor broadcast having come first.
 pub fn by_hash_name(accepted: bool) -> &'static str {
@@ -47,7 +68,15 @@ pub fn expect(tally: &mut Tally) {
     }
     for answer in 0..2 {
         tally.expect(format!("C frame check {answer}"));
-        tally.expect(format!("C address rule {answer}"));
+    }
+    for answer in ANSWERS {
+        tally.expect(answer_name(answer));
+    }
+    for taken in Taken::ALL {
+        tally.expect(taken_name(taken));
+    }
+    for case in telling::CASES {
+        tally.expect(case_name(case));
     }
     for number in [0, 4, 5, 6] {
         tally.expect(format!("program verdict {number}"));
@@ -58,11 +87,17 @@ pub fn expect(tally: &mut Tally) {
 
 /// How often a kind must be met.
 pub fn least(kind: &str) -> usize {
-    let by_hash = [false, true].map(by_hash_name).contains(&kind);
-    let mode = (0..8).any(|mode| mode_name(mode) == kind);
-    match (by_hash, mode) {
-        (true, _) => BY_HASH_LEAST,
-        (_, true) => MODE_LEAST,
-        _ => 1,
+    if [false, true].map(by_hash_name).contains(&kind) {
+        BY_HASH_LEAST
+    } else if (0..8).any(|mode| mode_name(mode) == kind) {
+        MODE_LEAST
+    } else if ANSWERS.iter().any(|number| answer_name(*number) == kind)
+        || Taken::ALL.iter().any(|taken| taken_name(*taken) == kind)
+    {
+        ANSWER_LEAST
+    } else if telling::CASES.iter().any(|case| case_name(case) == kind) {
+        CASE_LEAST
+    } else {
+        1
     }
 }

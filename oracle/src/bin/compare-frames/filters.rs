@@ -1,8 +1,8 @@
-//! Filter registers for the address rule: every mode, that of the hash most often, and hash tables
-//! made for the frame.
+//! Filter registers for the address rule: every mode, most often the two that take groups, and hash
+//! tables made for the frame.
 
 use crate::expected;
-use oracle::address::{Filter, FILTER_MODE_SHIFT, HASH_MODE, RECEIVE_ALL};
+use oracle::address::{Filter, ALL_MULTICAST_MODE, FILTER_MODE_SHIFT, HASH_MODE, RECEIVE_ALL};
 use oracle::random::Random;
 use oracle::tables::Table;
 use oracle::tally::Tally;
@@ -13,8 +13,9 @@ pub fn random_filter(
     random: &mut Random,
     tally: &mut Tally,
 ) -> Filter {
-    let mode = match random.below(2) {
-        0 => HASH_MODE,
+    let mode = match random.below(8) {
+        0..=3 => HASH_MODE,
+        4 | 5 => ALL_MULTICAST_MODE,
         _ => random.below(8) as u32,
     };
     let receive_all = random.once_in(4);

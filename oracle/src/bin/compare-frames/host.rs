@@ -26,7 +26,7 @@ pub fn frame_check(frame: &[u8]) -> u32 {
     unsafe { library::tockfeather_frame_check(frame.as_ptr(), frame.len()) }
 }
 
-/// 1 if a station with these registers takes the frame, 0 if not.
+/// Why a station with these registers takes the frame, 1 to 4, and 0 if it does not.
 pub fn address_rule(frame: &[u8], filter: &Filter) -> u32 {
     // SAFETY: as above; the other arguments are numbers.
     unsafe {

@@ -3,6 +3,7 @@
 use crate::replays::MEMORIES;
 use crate::scripts::KINDS;
 use crate::{large, lengths, limits, targets};
+use oracle::taken::Taken;
 use oracle::tally::Tally;
 use oracle::tapes::FEATURES;
 use oracle::ungranted::Ungranted;
@@ -66,6 +67,11 @@ pub fn memory_name(kind: &str) -> String {
 
 pub fn ungranted_name(kind: Ungranted) -> String {
     format!("replay answer: {kind}")
+}
+
+/// A frame delivered whose packet status word the memory has at the end, where its check is told.
+pub fn left_name(taken: Taken) -> String {
+    format!("replay leaves the status word: {taken}")
 }
 
 pub fn feature_name(feature: &str) -> String {
@@ -133,6 +139,9 @@ pub fn expect(tally: &mut Tally) {
     }
     for kind in Ungranted::all() {
         tally.expect(ungranted_name(kind));
+    }
+    for taken in Taken::ALL {
+        tally.expect(left_name(taken));
     }
     for kind in KINDS {
         tally.expect(script_name(kind));

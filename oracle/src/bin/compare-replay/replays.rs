@@ -2,6 +2,7 @@
 
 use crate::compare::{Comparison, Start};
 use crate::expected;
+use oracle::delivered::Delivered;
 use oracle::files::{Contents, Entry};
 use oracle::hex;
 use oracle::programs::replay::MEMORY_MOST;
@@ -69,6 +70,11 @@ pub fn one(comparison: &mut Comparison, trace: &[u8], memory: &[u8]) -> Result<(
     for kind in ungranted(trace, memory) {
         comparison.tally.met(expected::ungranted_name(kind));
     }
+    for delivered in delivered(trace, memory) {
+        if delivered.left {
+            comparison.tally.met(expected::left_name(delivered.taken));
+        }
+    }
     let before = contents(comparison, &[(TRACE, trace), (MEMORY, memory)]);
     given(comparison, &[TRACE, MEMORY], &before)
 }
@@ -82,6 +88,16 @@ fn ungranted(trace: &[u8], memory: &[u8]) -> Vec<Ungranted> {
     // The program lends each send as much as any needs.
     let (memory, output) = (memory.to_vec(), vec![0; 1_518]);
     Ungranted::in_events(base, length.into(), &content.events, memory, output)
+}
+
+/// Each frame that a replay delivers; none where the trace is refused or another memory is lent.
+fn delivered(trace: &[u8], memory: &[u8]) -> Vec<Delivered> {
+    let Ok(content) = trace::content(trace) else {
+        return Vec::new();
+    };
+    let Header { base, length } = content.header;
+    let (memory, output) = (memory.to_vec(), vec![0; 1_518]);
+    Delivered::in_events(base, length.into(), &content.events, memory, output)
 }
 
 /// Replays a trace with a memory that is not there: that is told, whatever the trace is.

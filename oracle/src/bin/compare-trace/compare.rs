@@ -2,6 +2,7 @@
 
 use crate::difference::{self, BEFORE};
 use crate::{expected, found, library};
+use oracle::delivered::Delivered;
 use oracle::device::Window;
 use oracle::tally::Tally;
 use oracle::tapes::{Lent, List, Tape};
@@ -93,6 +94,7 @@ impl Comparison {
                 self.answers(&left.answers[..wanted.events as usize]);
                 let list = &left.room[..wanted.bytes as usize];
                 self.ungranted(list, wanted.bench.window, lent);
+                self.delivered(list, wanted.bench.window, lent);
                 if lent.answers.len() as u64 > wanted.events {
                     self.tally.met(expected::LONGER_LIST);
                 }
@@ -140,6 +142,19 @@ impl Comparison {
         let (memory, output) = (lent.memory.clone(), lent.output.clone());
         for kind in Ungranted::in_events(base as u32, length, list, memory, output) {
             self.tally.met(expected::ungranted_name(kind));
+        }
+    }
+
+    /// Each frame that a replay delivers, by why it was taken, and those whose packet status word the
+    /// memory has at the end.
+    fn delivered(&mut self, list: &[u8], window: Window, lent: &Lent) {
+        let Window { base, length } = window;
+        let (memory, output) = (lent.memory.clone(), lent.output.clone());
+        for delivered in Delivered::in_events(base as u32, length, list, memory, output) {
+            self.tally.met(expected::delivered_name(delivered.taken));
+            if delivered.left {
+                self.tally.met(expected::left_name(delivered.taken));
+            }
         }
     }
 

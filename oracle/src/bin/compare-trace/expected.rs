@@ -1,10 +1,12 @@
 //! What a whole comparison must have met, and how often.
 
+use oracle::taken::Taken;
 use oracle::tally::Tally;
 use oracle::tapes::{fault_names, DAMAGES, FEATURES, SHAPES};
 use oracle::ungranted::Ungranted;
 
-/// How often each number and each answer of a replay must be met in a whole comparison.
+/// How often each number, each answer of a replay and each kind of delivery must be met in a whole
+/// comparison.
 const LEAST: usize = 100;
 /// And each reason in a first, middle and last block.
 const PLACE_LEAST: usize = 30;
@@ -51,6 +53,14 @@ pub fn answer_name(number: u32) -> String {
 
 pub fn ungranted_name(kind: Ungranted) -> String {
     format!("replay answer {kind}")
+}
+
+pub fn delivered_name(taken: Taken) -> String {
+    format!("replay delivers: {taken}")
+}
+
+pub fn left_name(taken: Taken) -> String {
+    format!("replay leaves the status word: {taken}")
 }
 
 pub fn damage_name(damage: &str) -> String {
@@ -134,6 +144,10 @@ pub fn expect(tally: &mut Tally) {
     }
     for kind in Ungranted::all() {
         tally.expect(ungranted_name(kind));
+    }
+    for taken in Taken::ALL {
+        tally.expect(delivered_name(taken));
+        tally.expect(left_name(taken));
     }
     for (number, places) in PLACES {
         for place in places {

@@ -1,7 +1,9 @@
 //! What is claimed of a history, frame by frame and as a whole.
 
+use crate::expected;
 use crate::history::History;
 use oracle::numbers::{DONE, FRAME_ADDRESS};
+use oracle::reason::Reason;
 use oracle::verdict;
 
 /// What a comparison of two histories goes by, receive by receive: the grants made before it, and
@@ -19,7 +21,8 @@ impl History<'_> {
         let filter = self.start.bench.filter();
         let mut delivered = Vec::new();
         for (frame, answer) in met {
-            let turned_away = verdict::first_number(frame, &filter);
+            let passes = verdict::passing(frame, &filter);
+            let turned_away = passes.err().unwrap_or(DONE);
             let all_used = self.delivered == self.grants;
             let wanted = match (turned_away, all_used) {
                 (0, true) => 8,
@@ -36,13 +39,15 @@ impl History<'_> {
                     _ => {}
                 }
             }
-            match answer {
-                0 => {
+            match (answer, passes) {
+                (0, Ok(reason)) => {
                     self.tally.met(format!("{kind} delivered"));
-                    delivered.push((self.delivered, *frame));
+                    self.tally.met(expected::delivered_name(kind, reason));
+                    let word = status_word(frame, reason);
+                    delivered.push((self.delivered, *frame, word));
                     self.delivered += 1;
                 }
-                8 => self.tally.met(format!("{kind} lost")),
+                (8, _) => self.tally.met(format!("{kind} lost")),
                 _ => self.tally.met(format!("{kind} turned away")),
             }
             self.marks.push(Mark {
@@ -51,14 +56,15 @@ impl History<'_> {
             });
         }
         // "The call of each frame inside ends when the burst ends": all lie there together.
-        for (place, frame) in delivered {
-            self.lies_whole(place, frame)?;
+        for (place, frame, word) in delivered {
+            self.lies_whole(place, frame, word)?;
         }
         Ok(())
     }
 
-    /// The delivered frame of this number, from 0, lies in the buffer of the grant of that number.
-    fn lies_whole(&self, place: usize, frame: &[u8]) -> Result<(), String> {
+    /// The delivered frame of this number, from 0, lies in the buffer of the grant of that number,
+    /// "and that descriptor's packet status holds its length": it is this word, no bit more or less.
+    fn lies_whole(&self, place: usize, frame: &[u8], word: u32) -> Result<(), String> {
         let address = self.granted(place);
         let start = self.now.word(address, 4);
         let places = self
@@ -70,8 +76,11 @@ impl History<'_> {
         if self.now.memory[places] != *frame {
             return Err(format!("frame {place} is not in its buffer"));
         }
-        if self.now.word(address, 12) != frame.len() as u32 {
-            return Err(format!("frame {place} has another length"));
+        let found = self.now.word(address, 12);
+        if found != word {
+            return Err(format!(
+                "frame {place} has the packet status {found:08x}, not {word:08x}"
+            ));
         }
         Ok(())
     }
@@ -99,5 +108,28 @@ impl History<'_> {
         }
         self.tally.met("history made again by single receives");
         Ok(())
+    }
+}
+
+/// The packet status of a delivered frame: its length, VALID returned, and the bit of broadcast or
+/// group if it was taken for that; "and leaves the others 0".
+fn status_word(frame: &[u8], reason: Reason) -> u32 {
+    let length = frame.len() as u32;
+    match reason {
+        Reason::Broadcast => 0x1000_0000 + length,
+        Reason::Group => 0x0800_0000 + length,
+        Reason::Own | Reason::ReceiveAll => length,
+    }
+}
+
+#[cfg(test)]
+mod tests {
+    use super::*;
+
+    #[test]
+    fn the_word_of_each_reason() {
+        let words = |length| Reason::ALL.map(|reason| status_word(&vec![0; length], reason));
+        assert_eq!(words(64), [0x40, 0x1000_0040, 0x0800_0040, 0x40]);
+        assert_eq!(words(1_518), [0x5EE, 0x1000_05EE, 0x0800_05EE, 0x5EE]);
     }
 }

@@ -1,6 +1,7 @@
 //! What a whole run must have met, or the claims would have said too little.
 
 use crate::without_polling::{AT_THE_START, IN_ONE_WORD};
+use oracle::reason::Reason;
 use oracle::tally::Tally;
 
 /// Met once at least.
@@ -39,6 +40,21 @@ const BY_HASH: [&str; 4] = [
 ];
 const BY_HASH_LEAST: usize = 1_000;
 
+/// Frames delivered by each reason, alone and in a burst. In one history the filter registers do not
+/// change, so that starts of several settings have part in them.
+const DELIVERED_LEAST: usize = 1_000;
+
+pub fn delivered_name(kind: &str, reason: Reason) -> String {
+    format!("{kind} delivered: {reason}")
+}
+
+fn delivered_names() -> impl Iterator<Item = String> {
+    let kinds = ["frame", "frame in a burst"];
+    kinds
+        .into_iter()
+        .flat_map(|kind| Reason::ALL.map(|reason| delivered_name(kind, reason)))
+}
+
 /// Starts in each filter mode.
 const START_LEAST: usize = 50;
 
@@ -49,6 +65,7 @@ pub fn start_name(mode: u32) -> String {
 pub fn expect(tally: &mut Tally) {
     ONCE.iter().for_each(|kind| tally.expect(*kind));
     BY_HASH.iter().for_each(|kind| tally.expect(*kind));
+    delivered_names().for_each(|kind| tally.expect(kind));
     (0..8).for_each(|mode| tally.expect(start_name(mode)));
 }
 
@@ -56,6 +73,8 @@ pub fn expect(tally: &mut Tally) {
 pub fn least(kind: &str) -> usize {
     if BY_HASH.contains(&kind) {
         BY_HASH_LEAST
+    } else if delivered_names().any(|name| name == kind) {
+        DELIVERED_LEAST
     } else if (0..8).any(|mode| start_name(mode) == kind) {
         START_LEAST
     } else {

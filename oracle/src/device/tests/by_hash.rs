@@ -35,12 +35,12 @@ fn a_frame_is_taken_exactly_by_its_own_bit() {
 }
 
 #[test]
-fn a_frame_taken_is_delivered_like_any_other() {
+fn a_frame_taken_is_delivered_as_a_group() {
     let mut trial = hashing(0, 1 << 3);
     let mut expected = trial.memory.clone();
     let sent = frame(PAUSE, 70);
     expected[0x100..0x146].copy_from_slice(&sent);
-    expected[12..16].copy_from_slice(&[70, 0, 0, 0]);
+    expected[12..16].copy_from_slice(&[70, 0, 0, 8]);
     assert_eq!(trial.receive(&sent), 0);
     assert_eq!(trial.memory, expected);
     assert_eq!(trial.status(), RESET_STATUS | RX_CURR_DONE);

@@ -6,6 +6,7 @@ mod grants;
 mod marked;
 mod polling;
 mod readings;
+mod reasons;
 mod receiving;
 mod register_access;
 mod rings;

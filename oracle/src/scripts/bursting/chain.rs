@@ -68,7 +68,11 @@ fn chain(writer: &mut Writer, count: usize, size: u32) -> Vec<Place> {
                 control: size | next_enable,
                 start: buffers.wrapping_add(size * place as u32),
                 next: table.wrapping_add(16 * ((place + 1) % count) as u32) | writer.low_bits(),
-                status: VALID,
+                // Other bits beside VALID are gone with the delivery.
+                status: match writer.random.below(4) {
+                    0 => writer.random.word() | VALID,
+                    _ => VALID,
+                },
             }
         })
         .collect()

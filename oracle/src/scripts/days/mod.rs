@@ -2,6 +2,7 @@
 
 mod both;
 mod idle;
+mod reasons;
 mod receiving;
 mod sending;
 
@@ -11,9 +12,10 @@ use crate::console::Console;
 use crate::random::Random;
 
 /// The kinds of random day.
-const KINDS: [fn(&mut Writer); 6] = [
+const KINDS: [fn(&mut Writer); 7] = [
     receiving::on_a_ring,
     receiving::on_a_ring,
+    reasons::on_a_ring,
     sending::along_a_chain,
     sending::along_a_chain,
     both::in_a_small_window,

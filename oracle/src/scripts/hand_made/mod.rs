@@ -3,6 +3,7 @@
 mod bursts;
 mod hashes;
 mod polling;
+mod reasons;
 
 use crate::compare::Script;
 use crate::{check, hex};
@@ -53,6 +54,8 @@ pub fn scripts() -> Vec<Script> {
         polling::several_at_once(),
         polling::after_reset(),
         polling::rings(),
+        reasons::alone(),
+        reasons::in_a_burst(),
     ];
     texts
         .iter()

@@ -20,13 +20,19 @@ impl Writer {
         self.random.word() & LOW_BITS
     }
 
-    /// A frame that passes, or a single send; gives the oracle's answer.
+    /// A frame that passes, often with a look at its status word, or a single send; gives the
+    /// oracle's answer.
     pub fn call(&mut self, side: Side) -> String {
         match side {
             Side::Receiving => {
                 let length = self.random.between(64, 72);
                 let frame = self.passing_frame(length);
-                self.say(format!("frame {}", hex::write(&frame)))
+                let place = self.console.bench.receiver.place;
+                let answer = self.say(format!("frame {}", hex::write(&frame)));
+                if self.random.once_in(2) {
+                    self.peek_status(place);
+                }
+                answer
             }
             Side::Sending => self.say("send 1518"),
         }

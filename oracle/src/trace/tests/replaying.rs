@@ -75,7 +75,8 @@ fn a_day_by_hand() {
     assert_eq!(room[..list.len()], list);
     assert_eq!(room[list.len()..], [0xEE; 3]);
     assert_eq!(memory[64..], frame());
-    assert_eq!(memory[12..16], [64, 0, 0, 0]);
+    // To everybody: bit 28.
+    assert_eq!(memory[12..16], [64, 0, 0, 0x10]);
     assert_eq!(memory[28..32], [0, 0, 0, 0]);
     assert!(check::right(&output[..64]));
     assert_eq!(output[..14], [0xA5; 14]);
