@@ -60,24 +60,31 @@ static const struct {
 struct frame_in {
     size_t length;
     uint32_t control, start;
-    uint8_t last;      /* of the destination; the station's is 01 */
+    const uint8_t *to;
     bool damaged;      /* one bit of the frame */
     uint32_t taken;    /* of the rounds */
 };
 
+static const uint8_t station[6] = {0x02, 0, 0, 0, 0, 1};
+static const uint8_t other[6] = {0x02, 0, 0, 0, 0, 2};
+static const uint8_t everybody[6] = {0xFF, 0xFF, 0xFF, 0xFF, 0xFF, 0xFF};
+static const uint8_t group[6] = {0x03, 0, 0, 0, 0, 1};
+
 static const struct frame_in frames_in[] = {
-    {64, LINKED | 1518, BUFFER, 1, false, ROUNDS},
-    {512, LINKED | 1518, BUFFER, 1, false, ROUNDS},
-    {1518, LINKED | 1518, BUFFER, 1, false, ROUNDS},
-    {1518, 1518, BUFFER, 1, false, 1},
-    {63, LINKED | 1518, BUFFER, 1, false, 0},
-    {1519, LINKED | 1519, BUFFER, 1, false, 0},
-    {512, LINKED | 1518, BUFFER, 1, true, 0},
-    {512, LINKED | 1518, BUFFER, 2, false, 0},
-    {512, LINKED | 511, BUFFER, 1, false, 0},
-    {512, LINKED | 512, BUFFER + 2, 1, false, 0},
-    {512, LINKED | 512, BUFFER - 4, 1, false, 0},
-    {512, LINKED | 512, WINDOW - 508, 1, false, 0},
+    {64, LINKED | 1518, BUFFER, station, false, ROUNDS},
+    {512, LINKED | 1518, BUFFER, station, false, ROUNDS},
+    {1518, LINKED | 1518, BUFFER, station, false, ROUNDS},
+    {1518, 1518, BUFFER, station, false, 1},
+    {63, LINKED | 1518, BUFFER, station, false, 0},
+    {1519, LINKED | 1519, BUFFER, station, false, 0},
+    {512, LINKED | 1518, BUFFER, station, true, 0},
+    {512, LINKED | 1518, BUFFER, other, false, 0},
+    {512, LINKED | 511, BUFFER, station, false, 0},
+    {512, LINKED | 512, BUFFER + 2, station, false, 0},
+    {512, LINKED | 512, BUFFER - 4, station, false, 0},
+    {512, LINKED | 512, WINDOW - 508, station, false, 0},
+    {64, LINKED | 1518, BUFFER, everybody, false, ROUNDS},
+    {512, LINKED | 1518, BUFFER, group, false, 0},
 };
 
 /* Frames of every length, right and with one bit damaged; below 10 bytes there
@@ -112,10 +119,15 @@ static bool same_in(const struct frame_in *in)
     static uint8_t left[WINDOW];
     bool same = true;
 
-    make_frame(in->length, in->last);
+    make_frame_to(in->length, in->to);
     frame[20] ^= in->damaged;
     for (size_t k = 0; k < CONTESTANTS; k++) {
         uint32_t taken;
+#ifdef WITH_BEFORE
+        /* an earlier commit may write a broadcast's length alone into the packet status */
+        if (in->to == everybody && contestants[k].model == &before)
+            continue;
+#endif
         prepare(in->control, in->start);
         taken = contestants[k].model->receive(memory, WINDOW, frame, in->length, ROUNDS);
         if (k == 0)

@@ -178,7 +178,8 @@ static enum reason address_rule(const struct enet *device, const uint8_t *frame)
     return memcmp(frame, station, 6) == 0 ? OWN : NOT_TAKEN;
 }
 
-/* The packet status word of a delivery: the length, and the bit of its reason. */
+/* The packet status word of a delivery: the length, and the bit of its reason. The
+ * benchmark's device takes no group. */
 static uint32_t status(enum reason reason, size_t length)
 {
     switch (reason) {

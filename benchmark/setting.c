@@ -37,10 +37,16 @@ void prepare(uint32_t control, uint32_t start)
 void make_frame(size_t length, uint8_t last)
 {
     const uint8_t destination[6] = {0x02, 0, 0, 0, 0, last};
+
+    make_frame_to(length, destination);
+}
+
+void make_frame_to(size_t length, const uint8_t destination[6])
+{
     uint32_t crc = UINT32_C(0xFFFFFFFF);
 
     fill(frame, length, 3);
-    memcpy(frame, destination, sizeof destination);
+    memcpy(frame, destination, 6);
     for (size_t bit = 0; bit < 8 * (length - 4); bit++) {
         uint32_t leaves = (crc ^ frame[bit / 8] >> bit % 8) & 1;
         crc = crc >> 1 ^ (leaves ? UINT32_C(0xEDB88320) : 0);

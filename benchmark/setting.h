@@ -32,8 +32,9 @@ void fill(uint8_t *bytes, size_t length, uint32_t seed);
  * ring of one descriptor, with polling. */
 void prepare(uint32_t control, uint32_t start);
 
-/* A frame of any length from 10 on, its check sequence right, for the station
- * whose address ends in `last`. */
+/* A frame of any length from 10 on, its check sequence right, to six bytes, or for
+ * the station whose address ends in `last`. */
+void make_frame_to(size_t length, const uint8_t destination[6]);
 void make_frame(size_t length, uint8_t last);
 
 /* Processor time. */

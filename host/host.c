@@ -18,8 +18,8 @@
  *
  *   good.bin: 64 bytes, check right, accepted: own address
  *
- * where the reason is own address, broadcast, group or receive-all; or, for a
- * frame that the rule does not take, not accepted without a reason.
+ * with own address, broadcast, group or receive-all for the reason, or with just
+ * "not accepted" for a frame that the rule does not take.
  *
  * Exit status: 0; 1 where a frame could not be read or the output not written;
  * 2 for a usage error.

@@ -25,6 +25,13 @@ extern "C" {
  */
 uint32_t tockfeather_frame_check(const uint8_t *frame, size_t length);
 
+/* The answers of the address rule. */
+#define TOCKFEATHER_NOT_TAKEN 0
+#define TOCKFEATHER_OWN 1
+#define TOCKFEATHER_BROADCAST 2
+#define TOCKFEATHER_GROUP 3
+#define TOCKFEATHER_RECEIVE_ALL 4
+
 /*
  * The address rule: why the frame is taken, or 0 where it is not.
  *
@@ -81,11 +88,6 @@ uint32_t tockfeather_frame_check(const uint8_t *frame, size_t length);
  * hash_low, 0x00000008. 33-33-00-00-00-01 leaves 0xF99BAABA, which begins
  * 1 11110: bit 30 of hash_high, 0x40000000.
  */
-#define TOCKFEATHER_NOT_TAKEN 0
-#define TOCKFEATHER_OWN 1
-#define TOCKFEATHER_BROADCAST 2
-#define TOCKFEATHER_GROUP 3
-#define TOCKFEATHER_RECEIVE_ALL 4
 uint32_t tockfeather_address_rule(const uint8_t *frame, size_t length,
                                   uint32_t control, uint32_t high,
                                   uint32_t low, uint32_t hash_high,

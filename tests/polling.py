@@ -189,7 +189,7 @@ DAYS = {
         (*LOST, looks_again('the next word of the descriptor at 00000110')),
         ('state', 'state 1 00000200 0 00000000'),
     ],
-    # the next word of the descriptor at 104 is the packet status of that at 100: which bits the device sets there is its own
+    # the next word of the descriptor at 104 is the packet status of that at 100: the report does not follow what the device writes there
     'a next word by the device': [
         NEW,
         put(0x104, 0x1),

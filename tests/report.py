@@ -175,9 +175,6 @@ LINES = [
     ('peek 0 3', 'peek 343100', '-> "41"'),
     ('peek 0 2', 'peek ff00', '-> ff00'),
     ('peek 0 2', 'peek outside', '-> outside the window'),
-    ('peek c 4', 'peek 00000100', '-> 00000100: packet status of the descriptor at 00000000, granted, length 0'),
-    ('peek c 4', 'peek ee050010', 'packet status of the descriptor at 00000000, returned, length 1518, broadcast'),
-    ('peek c 4', 'peek ff070008', 'returned, length 2047, multicast'),
     ('peek c 3', 'peek 400000', '-> "@"'),
     ('check', 'check cbf43926', "cbf43926: CRC-32 of the window's bytes"),
     ('state', 'state 0 00000100 0 00000000', 'receiving is stopped, place 00000100; sending is stopped, place 00000000'),
@@ -236,9 +233,9 @@ TO = [
     ('new', '0180c2000001', '01-80-C2-00-00-01'),
 ]
 
-# ---- why a frame was taken: MAC control, multicast hash high and low, a destination, and the reason, '' for none; the station
-# is 02-00-00-00-00-01, and the rules are those of document 01, the first that applies
+# ---- why a frame was taken, and the packet status of its delivery: the rules are those of document 01, the first that applies
 
+# MAC control, multicast hash high and low, a destination, and the reason, '' for none; the station is 02-00-00-00-00-01
 WHY = [
     ('0', '0', '0', '020000000001', 'own address'),
     ('0', '0', '0', '020000000002', ''),
@@ -260,12 +257,46 @@ WHY = [
     ('800a0000', '0', '0', '0180c2000001', 'receive-all'),
     ('80020000', '0', '8', '0180c2000001', 'receive-all'),
 ]
+# the same with other lines before the frame; what a register holds at reset, and what is not written, counts
+STATIONS = [
+    # the upper half of MAC address high is reserved
+    (['write 404 ffff0100', 'write 408 2'], '020000000001', 'own address'),
+    # one register of the two at reset
+    (['write 408 2'], '02000000ffff', 'own address'),
+    (['write 404 100'], '000000000001', ''),
+    # a station that is a group, and one that is everybody
+    (['write 404 100', 'write 408 3'], '030000000001', ''),
+    (['write 404 100', 'write 408 3', 'write 400 a0000'], '030000000001', 'group'),
+    ([], 'ffffffffffff', 'broadcast'),
+    # a write that is refused, and a new bench that is not
+    (['write 404 100', 'write 408 2', ('write 400 80000000', 'write 2')], '020000000002', ''),
+    (['write 400 80000000', ('new 0 60', 'new 1')], '020000000002', ''),
+]
+# the packet status of a frame of 64 bytes by its reason, byte by byte: bit 28 for broadcast, bit 27 for group
+PACKET_STATUS = {'own address': '40000000', 'broadcast': '40000010', 'group': '40000008', 'receive-all': '40000000'}
+TOLD = {'40000000': 'returned, length 64', '40000010': 'returned, length 64, broadcast', '40000008': 'returned, length 64, multicast'}
+# words that no delivery of 64 bytes leaves
+NO_STATUS = ['40000018', '40000100', '3f000000', '00000000', '40000001']
 
 
-def why(control, high, low, to):
-    """A bench that runs with these registers, and a frame as it is given to it."""
-    lines = ['new 0 4096', 'write 408 2', 'write 404 100', f'write 400 {control}', f'write 40c {high}', f'write 410 {low}']
-    return ''.join(f'{line}\n' for line in lines), 'new 0\n' + 'write 0\n' * 5, to + RESULT[12:] + '00000000'
+def wording_of(number):
+    """How an answer that is no delivery begins."""
+    return f'-> {number} {"lost" if number == 8 else "refused"}: '
+
+
+def frame_to(to):
+    return to + RESULT[12:] + '00000000'
+
+
+def day(*lines):
+    """The script and the output of some lines, each with its answer or with one that says done."""
+    pairs = [line if isinstance(line, tuple) else (line, f'{line.split()[0]} 0') for line in lines]
+    return [''.join(f'{part}\n' for part in column) for column in zip(*pairs)]
+
+
+def filters(control, high, low):
+    """The lines that make a bench with these filter registers."""
+    return ['new 0 4096', 'write 408 2', 'write 404 100', f'write 400 {control}', f'write 40c {high}', f'write 410 {low}']
 
 
 # name, script, output, what the report has to say; each ends with status 1
@@ -282,6 +313,9 @@ FAULTS = [
     ('no numbered result', 'grant 0\n', 'grant 17\n', '17 is no numbered result'),
     ("a burst's number", 'grant 0\n', 'grant 16\n', '16 answers nothing but a burst'),
     ('bytes cut', 'run 1 1518\n', 'run 0 1 64 00\n', '64 bytes promised, 1 written'),
+    ('a peek cut', 'peek 0 4\n', 'peek 40\n', '4 bytes asked for, 1 written'),
+    ('a peek of nothing', 'peek 0 4\n', 'peek -\n', '4 bytes asked for, 0 written'),
+    ('a peek too long', 'peek 0 0\n', 'peek 40\n', '0 bytes asked for, 1 written'),
     ('an answer too few', 'burst 2 - 0 0 0 0\n', 'burst 0 4\n',
      'line 1, answer to "burst 2 - 0 0 0 0": 2 answers promised, 1 written'),
     ('an answer too many', 'burst 1 - 0 0\n', 'burst 0 4 4\n', '1 answer promised, 2 written'),
@@ -405,27 +439,73 @@ class Tests:
         given = re.findall(r', to (.*), 88B5', text)
         self.expect('bits of the hash', status == 0 and given == wanted, text)
 
+    def told(self, days):
+        """What one report says of the lines of several days, each of which begins with a new bench; faults as such."""
+        script, output = (''.join(parts) for parts in zip(*days))
+        _, text = self.report(script, output)
+        said = {at: ' '.join(lines) for at, lines in calls(text).items()}
+        said |= {int(at): f'FAULT {words}' for at, words in re.findall(r'^FAULT  line (\d+), answer to (.*)$', text, re.MULTILINE)}
+        lines = iter(range(1, script.count('\n') + 1))
+        return [[said.get(next(lines), '') for _ in script.splitlines()] for script, _ in days]
+
     def reasons(self):
         """The reason of a delivered frame is told, of a pair too, and an answer that the registers do not allow is a fault."""
-        for control, high, low, to, reason in WHY:
-            script, output, data = why(control, high, low, to)
-            # the chain ends at its first descriptor, so receiving is started anew
-            script += f'write 10 5\nframe {data}\nwrite 10 5\nburst 1 {data} 0 64\n'
-            for number in (0, 6, 8):
-                status, text = self.report(script, f'{output}write 0\nframe {number}\nwrite 0\nburst 0 {number}\n')
-                title = f'{to}, {control}, {high}, {low}: {number}'
-                if (number == 6) == (reason == ''):
-                    told = [line for line in text.splitlines() if 'delivered: ' in line and 'pairs' not in line]
-                    wanted = [f'-> 0 delivered: {reason}'] * 2 if number == 0 else []
-                    self.expect(title, status == 0 and len(told) == len(wanted)
-                                and all(line.endswith(words) for line, words in zip(told, wanted)), text)
-                else:
-                    wanted = f'6, yet the frame is taken: {reason}' if reason else f'{number}, yet no address rule takes the frame'
-                    self.expect(title, status == 1 and text.count(wanted) == 1 and f'"frame {data[:34]}..": {wanted}' in text, text)
-        # behind a fault the registers are not known, so the pair is tried by itself
-        script, output, data = why('0', '0', '0', '020000000002')
-        status, text = self.report(f'{script}write 10 5\nburst 2 {data} 0 63 0 64\n', f'{output}write 0\nburst 0 4 0\n')
-        self.expect('a pair for another station delivered', status == 1 and 'pair 2: 0, yet no address rule takes the frame' in text, text)
+        cases = [(filters(*registers), to, reason) for *registers, to, reason in WHY]
+        cases += [(['new 0 4096', *lines], to, reason) for lines, to, reason in STATIONS]
+        cases = [(*case, number) for case in cases for number in (0, 6, 7, 8)]
+        # the chain ends at its first descriptor, so receiving is started anew for the burst
+        days = [day(*lines, 'write 10 5', (f'frame {frame_to(to)}', f'frame {number}'),
+                    'write 10 5', (f'burst 1 {frame_to(to)} 0 64', f'burst 0 {number}')) for lines, to, _, number in cases]
+        for (lines, to, reason, number), said in zip(cases, self.told(days)):
+            frame, burst = said[-3], said[-1]
+            right = (number == 6) == (reason == '')
+            wanted = f'6, yet the frame is taken: {reason}' if reason else f'{number}, yet no address rule takes the frame'
+            if not right:
+                # behind a fault the registers are not known
+                self.expect(f'{lines[1:]}, to {to}: {number}', frame == f'FAULT "frame {frame_to(to)[:34]}..": {wanted}'
+                            and burst and 'FAULT' not in burst and 'delivered: ' not in burst, said)
+                continue
+            ends = f'-> 0 delivered: {reason}' if number == 0 else wording_of(number)
+            self.expect(f'{lines[1:]}, to {to}: {number}', frame.startswith('frame (') and ends in frame and ends in burst
+                        and (number == 0) == ('delivered: ' in frame), said)
+
+    def known(self):
+        """A pair is named where it contradicts; behind a fault the registers are not known until all are written again."""
+        lines, frame = filters('0', '0', '0'), frame_to('020000000002')
+        status, text = self.report(*day(*lines, 'write 10 5', (f'burst 2 {frame} 0 63 0 64', 'burst 0 4 0')))
+        self.expect('a pair for another station', status == 1 and 'pair 2: 0, yet no address rule takes the frame' in text, text)
+        for left_out in [None, *lines[1:]]:
+            again = [line for line in lines[1:] if line != left_out]
+            _, text = self.report(*day(*lines, ('peek 0 4', 'peek 00'), *again, f'frame {frame_to("020000000001")}'))
+            given = re.findall(r'-> 0 delivered(.*)', text)
+            self.expect(f'registers written again but {left_out}', given == ['' if left_out else ': own address'], text)
+            self.expect(f'frames told without a reason: {left_out}', ('reason not known 1' in rows(text)) == bool(left_out), text)
+
+    def statuses(self):
+        """The packet status of a delivered frame is told where it is looked at, and must be its length and its reason's bit."""
+        cases = [(registers, to, PACKET_STATUS[reason], word) for *registers, to, reason in WHY if reason for word in [*TOLD, *NO_STATUS]]
+        days = [day(*filters(*registers), (f'poke 0 {FIRST}', 'poke ok'), 'write 10 5', f'frame {frame_to(to)}',
+                    ('peek c 4', f'peek {word}')) for registers, to, _, word in cases]
+        for (registers, to, right, word), said in zip(cases, self.told(days)):
+            wanted = (f'peek c 4 -> {word}: packet status of the descriptor at 00000000, {TOLD[word]}' if word == right else
+                      f'FAULT "peek c 4": {word}, yet the frame that was delivered there leaves {right}, {TOLD[right]}')
+            self.expect(f'{registers}, to {to}: {word}', said[-1] == wanted, said)
+        # where no delivery wrote the word, or something was written over it, no more is said than who has the descriptor
+        lines = [*filters('0', '0', '0'), (f'poke 0 {FIRST}', 'poke ok'), 'write 10 5']
+        delivered = [*lines, f'frame {frame_to("ffffffffffff")}']
+        cases = [
+            ('no delivery', lines, '40000010', 'returned'),
+            ('a grant', [*delivered, 'grant 0'], '00000100', 'granted'),
+            ('a poke', [*delivered, ('poke f 10', 'poke ok')], '40000010', 'returned'),
+            ('a poke beside it', [*delivered, ('poke b 00', 'poke ok'), ('poke 10 00', 'poke ok')], '40000010',
+             'returned, length 64, broadcast'),
+        ]
+        said, = self.told([day(*delivered, ('peek c 2', 'peek 4000'))])
+        self.expect('a part of a status word', said[-1] == 'peek c 2 -> "@"', said)
+        days = [day(*before, ('peek c 4', f'peek {word}')) for _, before, word, _ in cases]
+        for (title, _, word, wanted), said in zip(cases, self.told(days)):
+            self.expect(f'a status word behind {title}',
+                        said[-1] == f'peek c 4 -> {word}: packet status of the descriptor at 00000000, {wanted}', said)
 
     def faults(self):
         for name, script, output, wanted in FAULTS + polling.FAULTS:
@@ -564,6 +644,8 @@ def main(program):
         tests.bursts()
         tests.hashes()
         tests.reasons()
+        tests.known()
+        tests.statuses()
         tests.faults()
         tests.day(str(pathlib.Path(program).resolve()))
     print(f'report: {tests.passed} passed, {tests.failed} failed')

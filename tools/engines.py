@@ -145,9 +145,9 @@ class Engine:
 
 
 class Engines:
-    def __init__(self, named):
-        """`named` gives a descriptor's words, by its address."""
-        self.named = named
+    def __init__(self, named, address_filter):
+        """`named` gives a descriptor's words, by its address; the filter says why a frame is taken."""
+        self.named, self.filter = named, address_filter
         self.receiving = Engine('receiving', 'RXNDAR', 'frame')
         self.sending = Engine('sending', 'TXNDAR', 'send')
         self.starts = {'RXSTR': self.receiving, 'TXSTR': self.sending}
@@ -178,7 +178,7 @@ class Engines:
             self.memory.lose_all()
         else:
             self.memory.put(start, frame)
-            self.memory.lose(engine.place + wording.STATUS_WORD, 4)
+            self.memory.deliver(engine.place, wording.delivered(len(frame), self.filter.reason(frame)))
         engine.move(control, following, at)
         return ''
 
@@ -255,6 +255,14 @@ class Engines:
     def follow_poke(self, at, address, data, verdict):
         if verdict == 'ok':
             self.memory.put(address, data)
+        return []
+
+    def follow_peek(self, at, address, length, verdict):
+        """A delivered frame's packet status is its length and the bit of its reason."""
+        word = self.memory.delivered.get(address - wording.STATUS_WORD)
+        if word is not None and length == 4 and verdict != 'outside' and verdict != word.to_bytes(4, 'little').hex():
+            raise Contradiction(f'{verdict}, yet the frame that was delivered there leaves {word.to_bytes(4, "little").hex()}, '
+                                f'{wording.status(word)}')
         return []
 
     def follow_state(self, at, receives, receive_place, sends, send_place):

@@ -1,12 +1,11 @@
 """Why a frame was taken: the address rule by the filter registers, as far as the calls of a script tell these.
 
-Nothing is known before the first `new`, nor behind a line that could not be told; nothing is said of a frame then.
+Nothing is known before the first `new`, nor behind a line that could not be told until all five are written again; nothing is
+said of a frame then.
 """
 import wording
 from engines import Contradiction, in_pair
 
-# as the report names them, in the order of document 02
-OWN, BROADCAST, GROUP, RECEIVE_ALL = REASONS = 'own address', 'broadcast', 'group', 'receive-all'
 # numbers that a frame gets only behind the address rule: it was taken
 PASSED, NOT_TAKEN = (0, 7, 8), 6
 # by offset: the value at reset
@@ -34,14 +33,14 @@ class Filter:
         if len(to) < 6:
             return ''
         if wording.receive_all(self.control):
-            return RECEIVE_ALL
+            return wording.RECEIVE_ALL
         if to == wording.BROADCAST:
-            return BROADCAST
+            return wording.BROADCAST_RULE
         if to[0] & 1:
-            return GROUP if self.takes_group(to) else ''
+            return wording.GROUP if self.takes_group(to) else ''
         station = (self.values[wording.ADDRESS_LOW].to_bytes(4, 'little')
                    + (self.values[wording.ADDRESS_HIGH] & 0xffff).to_bytes(2, 'little'))
-        return OWN if to == station else ''
+        return wording.OWN if to == station else ''
 
     def takes_group(self, to):
         mode = wording.filter_mode(self.control)

@@ -8,18 +8,29 @@ class Memory:
     def __init__(self, base=0, length=1 << 32, rest=None):
         self.base, self.end, self.rest = base, base + length, rest
         self.bytes = {}
+        # descriptors whose packet status word is the one that a delivery wrote: that word, None where it is not known
+        self.delivered = {}
 
     def length(self):
         return self.end - self.base
 
     def put(self, address, data):
         self.bytes.update(enumerate(data, address))
+        for place in list(self.delivered):
+            if address < place + wording.DESCRIPTOR and place + wording.STATUS_WORD < address + len(data):
+                del self.delivered[place]
 
     def lose(self, address, length):
         self.put(address, [None] * length)
 
     def lose_all(self):
-        self.bytes, self.rest = {}, None
+        self.bytes, self.rest, self.delivered = {}, None, {}
+
+    def deliver(self, place, word):
+        """A delivery writes the packet status word of the descriptor at a place. Its bytes are not told further: they count
+        where that word is looked at."""
+        self.lose(place + wording.STATUS_WORD, 4)
+        self.delivered[place] = word
 
     def word(self, address):
         """The word at an address, or None where it is not known or not all in the window."""

@@ -14,6 +14,8 @@ NUMBERED = {name for name, (_, answer) in pairing.FORMS.items() if answer[:1] ==
 
 # a burst has no more pairs, a step run no more steps; an answer before the call, which a refused burst leaves
 PAIRS_MOST, STEPS_MOST, UNANSWERED = 64, 4096, 99
+# of a delivered frame, where the filter registers are not known
+NOT_KNOWN = 'reason not known'
 
 
 @dataclasses.dataclass
@@ -45,7 +47,7 @@ class Totals:
     outside: int = 0
     delivered: int = 0
     delivered_bytes: int = 0
-    # by the reason for which they were taken, where that is known
+    # by the reason for which they were taken
     reasons: dict = dataclasses.field(default_factory=dict)
     lost: int = 0
     lost_bytes: int = 0
@@ -107,6 +109,8 @@ def odd(call):
         return f'{count(call.answer[2], "byte")} promised, {len(call.answer[3])} written'
     if call.name == 'run' and call.answer[1] > min(call.arguments[0], STEPS_MOST):
         return f'{count(call.answer[1], "step")}, yet it may make no more than {min(call.arguments[0], STEPS_MOST)}'
+    if call.name == 'peek' and call.answer[0] != 'outside' and len(pairing.bytes_of(call.answer[0])) != call.arguments[1]:
+        return f'{count(call.arguments[1], "byte")} asked for, {len(pairing.bytes_of(call.answer[0]))} written'
     if call.name == 'burst':
         return odd_burst(*call.arguments, *call.answer)
     if call.name in NUMBERED and call.answer[0] == 16:
@@ -119,8 +123,8 @@ class Day:
 
     def __init__(self, script, output):
         self.totals = Totals()
-        self.engines = engines.Engines(self.the_descriptor)
         self.filter = filtering.Filter()
+        self.engines = engines.Engines(self.the_descriptor, self.filter)
         self.forget()
         self.entries = [self.told(entry) for entry in pairing.entries(script, output)]
         self.calls = [entry for entry in self.entries if isinstance(entry, Told)]
@@ -184,6 +188,11 @@ class Day:
             return f'a descriptor, {wording.descriptor(data)}'
         return message(data, 0)
 
+    def status(self, address, verdict, words):
+        """A packet status word that the firmware reads, as far as `words` go."""
+        at = self.the_descriptor(address - wording.STATUS_WORD)
+        return f'packet status of {at}, {words(wording.word(pairing.bytes_of(verdict), 0))}'
+
     def engine(self, engine, runs, place):
         at = f'{place:08x}' + (f' ({self.descriptor(place)})' if place in self.ring else '')
         return f'{engine.name} {"runs" if runs else "is stopped"}, place {at}{engine.polled()}'
@@ -233,9 +242,9 @@ class Day:
 
     def tell_reason(self, told, reason):
         """Why a delivered frame was taken."""
-        if told.kind == 'delivered' and reason:
-            told.answered += f': {reason}'
-            add(self.totals.reasons, reason)
+        if told.kind == 'delivered':
+            told.answered += f': {reason}' if reason else ''
+            add(self.totals.reasons, reason or NOT_KNOWN)
 
     def tell_burst(self, told, room, store, places, number, answers):
         told.asked = (f'burst ({count(len(places), "pair")}, a store of {count(len(store), "byte")}, '
@@ -301,9 +310,10 @@ class Day:
     def tell_peek(self, told, address, length, verdict):
         if verdict == 'outside':
             told.answered = 'outside the window'
-        elif length == 4 and address - wording.STATUS_WORD in self.descriptors:
-            at = self.the_descriptor(address - wording.STATUS_WORD)
-            told.answered = f'{verdict}: packet status of {at}, {wording.status(wording.word(pairing.bytes_of(verdict), 0))}'
+        elif length == 4 and address - wording.STATUS_WORD in self.engines.memory.delivered:
+            told.answered = f'{verdict}: {self.status(address, verdict, wording.status)}'
+        elif length == 4 and address - wording.STATUS_WORD in self.descriptors and not wording.text(pairing.bytes_of(verdict)):
+            told.answered = f'{verdict}: {self.status(address, verdict, wording.owner)}'
         else:
             told.answered = wording.text(pairing.bytes_of(verdict)) or verdict
 

@@ -76,6 +76,9 @@ MODES = {MULTICAST_HASH: 'multicast by hash', ALL_MULTICAST: 'all-multicast on'}
 DMA_EN, START_FETCH, NEXT_ENABLE, VALID = 1 << 0, 1 << 2, 1 << 14, 1 << 16
 # of the packet status word of a delivered frame: its length, and the bits of its reason
 FRAME_LENGTH, MULTICAST_FRAME, BROADCAST_FRAME = 0x7ff, 1 << 27, 1 << 28
+# why a frame is taken, in the order of document 02; those with a bit
+OWN, BROADCAST_RULE, GROUP, RECEIVE_ALL = REASONS = 'own address', 'broadcast', 'group', 'receive-all'
+REASON_BITS = {BROADCAST_RULE: BROADCAST_FRAME, GROUP: MULTICAST_FRAME}
 # next-polling enable, of a next-descriptor register and of a descriptor's next word
 NPOL_EN = 1 << 0
 # how many bytes a descriptor has; words of it, by their first byte
@@ -242,10 +245,15 @@ def owner(status):
     return 'granted' if status & VALID else 'returned'
 
 
+def delivered(length, reason):
+    """The packet status word that a delivery leaves, None where the reason is not known."""
+    return None if reason is None else length | REASON_BITS.get(reason, 0)
+
+
 def status(value):
-    """A packet status word: who has the descriptor, and what it says of a delivered frame."""
-    named = [words for bit, words in ((BROADCAST_FRAME, 'broadcast'), (MULTICAST_FRAME, 'multicast')) if value & bit]
-    return ', '.join([owner(value), f'length {value & FRAME_LENGTH}'] + named)
+    """A packet status word: who has the descriptor, and, of one that is returned, what it says of a delivered frame."""
+    said = [(f'length {value & FRAME_LENGTH}', FRAME_LENGTH), ('broadcast', BROADCAST_FRAME), ('multicast', MULTICAST_FRAME)]
+    return ', '.join([owner(value)] + [words for words, bits in said if value & bits and not value & VALID])
 
 
 def leads(following):
