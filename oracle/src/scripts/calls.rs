@@ -90,12 +90,12 @@ impl Writer {
     /// A frame that passes, whatever the filter registers hold.
     pub fn passing_frame(&mut self, length: usize) -> Vec<u8> {
         let filter = self.console.bench.filter();
-        // Most filters take no groups; then these are to everybody.
         let destination = match self.random.below(4) {
             0 => filter.station(),
             1 | 2 => groups::at_level(&filter, true, &mut self.random),
             _ => BROADCAST,
         };
+        // What would be turned away, as groups in six of the eight modes, is to everybody instead.
         let destination = match filter.accepts(&destination) {
             true => destination,
             false => BROADCAST,

@@ -16,7 +16,8 @@ pub fn small_window(writer: &mut Writer) {
 
 pub fn in_a_small_window(writer: &mut Writer) {
     small_window(writer);
-    // By receive-all no status word has a bit that may become one of another descriptor's address.
+    // Half with other filters: then bits 27 and 28 of a status word may become part of another
+    // descriptor's address.
     match writer.random.below(2) {
         0 => writer.set_filter(),
         _ => {

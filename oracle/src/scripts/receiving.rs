@@ -107,9 +107,11 @@ fn step(writer: &mut Writer, ring: &[Place], granted: &mut usize) {
 }
 
 /// Grants a descriptor, by the call and at times by the firmware's own write, which may leave any bits
-/// beside VALID; and often looks at what it left. Gives whether it was returned before.
+/// beside VALID; and often looks at what it left. Gives whether it was returned before and is granted
+/// now.
 pub fn grant(writer: &mut Writer, address: u32) -> bool {
-    let returned = writer.word(address.wrapping_add(12)) & layout::VALID == 0;
+    let granted = |writer: &Writer| writer.word(address.wrapping_add(12)) & layout::VALID != 0;
+    let before = granted(writer);
     match writer.random.below(8) {
         0 => writer.grant_by_poke(address),
         _ => {
@@ -119,7 +121,7 @@ pub fn grant(writer: &mut Writer, address: u32) -> bool {
     if writer.random.once_in(3) {
         writer.peek_status(address);
     }
-    returned
+    !before && granted(writer)
 }
 
 /// After a frame: the status word at least, or the descriptor, the frame shown, and the memory's

@@ -2,10 +2,12 @@
 
 use crate::compare::Comparison;
 use crate::{expected, filters};
-use oracle::address::BROADCAST;
+use oracle::address::{Filter, BROADCAST};
 use oracle::frames::{self, Destination, Ending};
 use oracle::random::Random;
-use oracle::{check, verdict};
+use oracle::taken::Taken;
+use oracle::tally::Tally;
+use oracle::{check, telling, verdict};
 
 /// How many random frames are compared.
 const FRAMES: usize = 60_000;
@@ -76,11 +78,23 @@ fn functions(
 ) -> Result<(), String> {
     comparison.frame_check(frame, check::right(frame).into())?;
     let filter = filters::random_filter(frame, station, random, &mut comparison.tally);
-    if filter.asks_hash(frame) {
-        let accepted = filter.accepts(frame);
-        comparison.tally.met(expected::by_hash_name(accepted));
-    }
+    count(&mut comparison.tally, frame, &filter);
     comparison.address_rule(frame, &filter, filter.answer(frame))
+}
+
+/// What the address rule says of a random frame. The vectors are left out: they are the same in every
+/// run, and would hide it if the random frames missed a kind.
+fn count(tally: &mut Tally, frame: &[u8], filter: &Filter) {
+    tally.met(expected::answer_name(filter.answer(frame)));
+    if let Some(taken) = Taken::of(frame, filter) {
+        tally.met(expected::taken_name(taken));
+    }
+    for case in telling::cases(frame, filter) {
+        tally.met(expected::case_name(case));
+    }
+    if filter.asks_hash(frame) {
+        tally.met(expected::by_hash_name(filter.accepts(frame)));
+    }
 }
 
 /// The verdict program at every boundary length, with each kind of destination and check sequence.

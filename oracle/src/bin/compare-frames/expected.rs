@@ -10,9 +10,10 @@ use oracle::telling;
 const BY_HASH_LEAST: usize = 2_000;
 /// How often each filter mode must be met.
 const MODE_LEAST: usize = 1_000;
-/// How often the address rule must answer each number, a group by all-multicast and by hash too.
+/// How often the address rule must answer each number to a random frame, a group by all-multicast and
+/// by hash too.
 const ANSWER_LEAST: usize = 2_000;
-/// How often each case must be met that tells the order of the rule's lines.
+/// How often each case must be met in which two lines of the rule speak of a frame.
 const CASE_LEAST: usize = 100;
 
 /// What the C address rule answers: 0, or 1 to 4 by the reason.
