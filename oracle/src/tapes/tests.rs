@@ -33,18 +33,26 @@ fn good_traces_are_good_and_of_every_shape() {
     }
 }
 
-#[test]
-fn good_traces_meet_every_kind_of_8() {
-    let mut random = Random::new(16);
+/// Everything that 400 good traces meet, each replayed on its own image.
+fn met_in_good<T>(
+    seed: u64,
+    in_events: impl Fn(u32, u64, &[u8], Vec<u8>, Vec<u8>) -> Vec<T>,
+) -> Vec<T> {
+    let mut random = Random::new(seed);
     let mut met = Vec::new();
     for _ in 0..400 {
         let tape = good(&mut random);
         let content = trace::content(&tape.bytes).expect("a good trace has no bad block");
         let Header { base, length } = content.header;
         let (list, output) = (content.events, vec![0; 1_518]);
-        let kinds = Ungranted::in_events(base, length.into(), &list, tape.image, output);
-        met.extend(kinds);
+        met.extend(in_events(base, length.into(), &list, tape.image, output));
     }
+    met
+}
+
+#[test]
+fn good_traces_meet_every_kind_of_8() {
+    let met = met_in_good(16, Ungranted::in_events);
     for kind in Ungranted::all() {
         let count = met.iter().filter(|other| **other == kind).count();
         assert!(count > 50, "{kind}: {count}");
@@ -53,16 +61,7 @@ fn good_traces_meet_every_kind_of_8() {
 
 #[test]
 fn good_traces_deliver_by_every_reason() {
-    let mut random = Random::new(18);
-    let mut met = Vec::new();
-    for _ in 0..400 {
-        let tape = good(&mut random);
-        let content = trace::content(&tape.bytes).expect("a good trace has no bad block");
-        let Header { base, length } = content.header;
-        let (list, output) = (content.events, vec![0; 1_518]);
-        let all = Delivered::in_events(base, length.into(), &list, tape.image, output);
-        met.extend(all);
-    }
+    let met = met_in_good(18, Delivered::in_events);
     for taken in Taken::ALL {
         let of = |left: bool| {
             let wanted = Delivered { taken, left };
