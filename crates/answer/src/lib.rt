@@ -86,3 +86,30 @@ pub const BLOCKS: u32 = 27;
 
 // Too little room for the blocks.
 pub const BLOCK_ROOM: u32 = 28;
+
+// Of frames that are exported: the list is not of its form.
+pub const FRAME_LIST: u32 = 29;
+
+// Too little room for the capture.
+pub const CAPTURE_ROOM: u32 = 30;
+
+// Of a capture that is imported: its header is cut.
+pub const CAPTURE_HEADER: u32 = 31;
+
+// Another magic.
+pub const MAGIC: u32 = 32;
+
+// Another version.
+pub const VERSION: u32 = 33;
+
+// Another link type.
+pub const LINK_TYPE: u32 = 34;
+
+// A record that is cut.
+pub const RECORD: u32 = 35;
+
+// A record whose two lengths are unequal.
+pub const RECORD_LENGTHS: u32 = 36;
+
+// Too little room for the events or the times.
+pub const IMPORT_ROOM: u32 = 37;

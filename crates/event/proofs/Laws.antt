@@ -11,6 +11,7 @@ use lib.Seq.{getD-drop, drop-drop}
 use borrow.Author.Tests.{eq-eqb, ne-eqb, eqb-true, eqb-false}
 use Rattle.rules.specs.Choice.{if_then_else_}
 use Rattle.memory.specs.Memory.{word}
+use Rattle.memory.proofs.Parts.{word-from}
 use Rattle.event.specs.Event.{size}
 use Rattle.event.specs.Front.{Front, whole, cut, noEvent, front}
 use Rattle.event.specs.Sizes.{sizeOf, begins, sizeBy}
@@ -22,14 +23,6 @@ use Rattle.rules.proofs.Choices.{by-bool}
 use Rattle.event.proofs.Fronts.{front-of-none, front-part, partOf, size-is, size-fits}
 
 -- ---- a list from a place on
-
-pub word-from : (s : List ℕ) (p k : ℕ) → word (drop p s) k ≡ word s (p + k)
-unfolding word
-word-from s p k =
-    let a : p + (k + 1) ≡ p + k + 1 = omega arith in
-    let b : p + (k + 2) ≡ p + k + 2 = omega arith in
-    let c : p + (k + 3) ≡ p + k + 3 = omega arith in
-    rw (getD-drop p s k 0, getD-drop p s (k + 1) 0, getD-drop p s (k + 2) 0, getD-drop p s (k + 3) 0, a, b, c)
 
 pub byte-from : (s : List ℕ) (p : ℕ) → getD (drop p s) 0 0 ≡ getD s p 0
 byte-from s p = getD-drop p s 0 0 ∙ rw (add-zero p)

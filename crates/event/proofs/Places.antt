@@ -13,7 +13,8 @@ use Rattle.event.specs.Sizes.{sizeOf, begins, sizeBy, noneBy}
 use Rattle.event.specs.declared.Found.{Found}
 use Rattle.event.specs.declared.Found.the-variants.{RegisterWrite, Grant, Frame, Send, Cut, NoEvent}
 use Rattle.event.proofs.Fronts.{front-of-none, front-part, partOf, whole-write, whole-grant, whole-frame, whole-send}
-use Rattle.event.proofs.Laws.{word-from, byte-from, size-from}
+use Rattle.memory.proofs.Parts.{word-from}
+use Rattle.event.proofs.Laws.{byte-from, size-from}
 
 module _ (s : List ℕ) (p : ℕ) where
   pub at-end : length s ≤ p → Cut ≡ found p (front (drop p s))

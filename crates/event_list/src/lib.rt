@@ -5,27 +5,7 @@ ghost use mathlib.Core.Path.{_≡_};
 ghost use mathlib.Core.List.{_∷_, _++_};
 ghost use Rattle.memory.specs.Memory.{wordBytes};
 ghost use Rattle.event.specs.Event.{registerWrite, grant as aGrant, frame as aFrame, send as aSend, bytesOf};
-ghost use Rattle.event_list.specs.Put.{putOf, put};
-
-// Puts bytes, which lie in two pieces.
-fn put(list: &mut [u8], at: usize, head: &[u8], body: &[u8]) -> usize
-    ensures { λ r. ⌜ putOf r (now (list .exit)) ≡ put (now (list .entry)) at (now (head .entry) ++ now (body .entry)) ⌝ }
-{
-    if list.len() < at {
-        return 0;
-    }
-    let left = list.len() - at;
-    if left < head.len() {
-        return 0;
-    }
-    if left - head.len() < body.len() {
-        return 0;
-    }
-    let middle = at + head.len();
-    memory::store(list, at, head);
-    memory::store(list, middle, body);
-    middle + body.len()
-}
+ghost use Rattle.appending.specs.Put.{putOf, put};
 
 // The bytes of a register write.
 fn write_bytes(offset: u32, value: u32) -> [u8; 9]
@@ -61,25 +41,25 @@ pub fn write(list: &mut [u8], at: usize, offset: u32, value: u32) -> usize
     ensures { λ r. ⌜ putOf r (now (list .exit)) ≡ put (now (list .entry)) at (bytesOf (registerWrite offset value)) ⌝ }
 {
     let event = write_bytes(offset, value);
-    put(list, at, &event, b"")
+    appending::put(list, at, &event, b"")
 }
 
 pub fn grant(list: &mut [u8], at: usize, address: u32) -> usize
     ensures { λ r. ⌜ putOf r (now (list .exit)) ≡ put (now (list .entry)) at (bytesOf (aGrant address)) ⌝ }
 {
     let event = numbered(2, address as usize);
-    put(list, at, &event, b"")
+    appending::put(list, at, &event, b"")
 }
 
 pub fn frame(list: &mut [u8], at: usize, s: &[u8]) -> usize
     ensures { λ r. ⌜ putOf r (now (list .exit)) ≡ put (now (list .entry)) at (bytesOf (aFrame (now (s .entry)))) ⌝ }
 {
     let head = numbered(3, s.len());
-    put(list, at, &head, s)
+    appending::put(list, at, &head, s)
 }
 
 pub fn send(list: &mut [u8], at: usize) -> usize
     ensures { λ r. ⌜ putOf r (now (list .exit)) ≡ put (now (list .entry)) at (bytesOf aSend) ⌝ }
 {
-    put(list, at, &[4], b"")
+    appending::put(list, at, &[4], b"")
 }

@@ -9,7 +9,7 @@ use Rattle.rules.proofs.Choices.{said-yes, said-no}
 use Rattle.memory.specs.Memory.{store}
 use Rattle.window.specs.Window.{inWindow, offset}
 use Rattle.event.specs.Event.{frame, send, bytesOf}
-use Rattle.event_list.specs.Put.{putOf, put}
+use Rattle.appending.specs.Put.{putOf, put}
 use Rattle.forms.specs.Pairs.{named, decoded, decode}
 use Rattle.forms.proofs.NamedLaws.{named-is}
 use Rattle.recording.specs.declared.Day.{Day}

@@ -8,7 +8,7 @@ use Rattle.rules.specs.Choice.{if_then_else_}
 use Rattle.memory.specs.Memory.{store}
 use Rattle.window.specs.Window.{inWindow, offset}
 use Rattle.event.specs.Event.{send, bytesOf}
-use Rattle.event_list.specs.Put.{put}
+use Rattle.appending.specs.Put.{put}
 use Rattle.recording.specs.declared.Day.{Day}
 use Rattle.recording.specs.Day.{failed, grown, overflown}
 

@@ -11,7 +11,7 @@ use Rattle.rules.proofs.Choices.{by-bool}
 use Rattle.memory.specs.Memory.{wordOf, word, wordBytes}
 use Rattle.block_forms.specs.Forms.{Bytes}
 use Rattle.block_forms.proofs.Lists.{four-first, word-bytes}
-use Rattle.event.proofs.Laws.{word-from}
+use Rattle.memory.proofs.Parts.{word-from}
 
 -- the number of a number's four bytes
 pub digits : (v : ℕ) → v < 2 ^ 32 → wordOf (v % 256) (v / 256 % 256) (v / 256 / 256 % 256) (v / 256 / 256 / 256 % 256) ≡ v

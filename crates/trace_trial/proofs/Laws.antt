@@ -1,12 +1,8 @@
--- A turn of the loop that puts numbers at a list's front, and what each function leaves. Assumes nothing.
-use Prim.Native.Nat.{ℕ, _+_, _<_}
-use mathlib.Core.Path.{_≡_, sym, ap, _∙_}
+-- What each function leaves, and its numbers. Assumes nothing.
+use Prim.Native.Nat.{ℕ}
+use mathlib.Core.Path.{_≡_}
 use mathlib.Core.List.{List}
-use native.Mathlib.Nat.{zero-add}
-use lib.ListN.{length, getD, drop, set}
-use lib.Seq.{sets}
 use Rattle.memory.specs.Memory.{store}
-use Rattle.memory.proofs.Laws.{sets-turn}
 use Rattle.trace.specs.declared.Summary.{Summary}
 use Rattle.trace.specs.Reading.{readingOf, read}
 use Rattle.trace_writing.specs.declared.Written.{Written}
@@ -14,13 +10,6 @@ use Rattle.trace_writing.specs.Writing.{writingOf, write}
 use Rattle.replaying.specs.declared.Replayed.{Replayed}
 use Rattle.replaying.specs.Replay.{replaying, replay}
 use Rattle.trace_trial.specs.Numbers.{summaryNumbers, writtenNumbers, replayedNumbers, left, replayed}
-
-pub front-turn : (m s : List ℕ) (i : ℕ) → i < length s → sets (set m i (getD s i 0)) (0 + (i + 1)) (drop (i + 1) s) ≡ sets m (0 + i) (drop i s)
-front-turn m s i h =
-    let z : set m (0 + i) (getD s i 0) ≡ set m i (getD s i 0) = rw (zero-add i) in
-    ap (λ (l : List ℕ). sets l (0 + (i + 1)) (drop (i + 1) s)) (sym z) ∙ sets-turn m s 0 i h
-
--- ---- what each leaves, and its numbers
 
 pub read-left : (t room next found after : List ℕ) (f : Summary) → readingOf f next ≡ read t room → after ≡ store found 0 (summaryNumbers f)
     → (next ≡ read t room .room) × (after ≡ store found 0 (summaryNumbers (read t room .summary)))

@@ -7,20 +7,6 @@ ghost use Rattle.trace_writing.specs.Writing.{write};
 ghost use Rattle.trace_trial.specs.Numbers.{summaryNumbers, writtenNumbers, flag, replayedNumbers, left, replayed};
 use replaying::Replayed;
 
-// Numbers at the front of a list, as many as there is room for.
-fn put_all(list: &mut [u64], numbers: &[u64])
-    ensures { λ _. ⌜ now (list .exit) ≡ store (now (list .entry)) 0 (now (numbers .entry)) ⌝ }
-{
-    let mut i = 0;
-    while i < numbers.len() {
-        if list.len() <= i {
-            return;
-        }
-        list[i] = numbers[i];
-        i += 1;
-    }
-}
-
 // A test as a number.
 fn flag(t: bool) -> u64
     ensures { λ r. ⌜ r ≡ flag t ⌝ }
@@ -34,7 +20,7 @@ pub extern "C" fn trace_trial_read(trace: &[u8], room: &mut [u8], found: &mut [u
     ensures { λ _. ⌜ (now (room .exit) ≡ read (now (trace .entry)) (now (room .entry)) .room) × (now (found .exit) ≡ store (now (found .entry)) 0 (summaryNumbers (read (now (trace .entry)) (now (room .entry)) .summary))) ⌝ }
 {
     let f = trace::read(trace, room);
-    put_all(
+    number_list::put(
         found,
         &[
             f.number as u64,
@@ -59,7 +45,7 @@ pub extern "C" fn trace_trial_write(
     ensures { λ _. ⌜ (now (room .exit) ≡ write base window (now (events .entry)) (now (room .entry)) .room) × (now (found .exit) ≡ store (now (found .entry)) 0 (writtenNumbers (write base window (now (events .entry)) (now (room .entry)) .written))) ⌝ }
 {
     let w = trace_writing::write(base, window, events, room);
-    put_all(found, &[w.number as u64, w.blocks as u64]);
+    number_list::put(found, &[w.number as u64, w.blocks as u64]);
 }
 
 // What a replay answered.
@@ -111,5 +97,5 @@ pub extern "C" fn trace_trial_replay(
     ensures { λ _. ⌜ left (now (room .exit)) (now (memory .exit)) (now (output .exit)) (now (answers .exit)) (now (found .exit)) ≡ replayed (now (trace .entry)) (now (room .entry)) (now (memory .entry)) (now (output .entry)) (now (answers .entry)) (now (found .entry)) ⌝ }
 {
     let r = replaying::replay(trace, room, memory, output, answers);
-    put_all(found, &numbers_of(r));
+    number_list::put(found, &numbers_of(r));
 }

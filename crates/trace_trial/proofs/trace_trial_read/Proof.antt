@@ -15,4 +15,4 @@ trace-trial-read-spec =
     (λ c κs. search needs)
     (λ c. search needs)
     (λ c. search needs)
-    (λ c. read-left _ _ _ _ _ _ (c .before .before .before .before .before .before .before .before .before .before .read .ensures) (c .before .before .put-all .ensures)))
+    (λ c. read-left _ _ _ _ _ _ (c .before .before .before .before .before .before .before .before .before .before .read .ensures) (c .before .before .put .ensures)))

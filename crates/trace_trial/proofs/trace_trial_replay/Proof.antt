@@ -16,4 +16,4 @@ trace-trial-replay-spec =
     (λ c. search needs)
     (λ c. search needs)
     (λ c. search needs)
-    (λ c. replay-left _ _ _ _ _ _ _ _ _ _ _ _ _ (c .before .before .before .before .before .before .before .before .before .before .before .before .before .before .replay .ensures) (c .before .before .before .before .numbers-of .ensures) (c .before .before .put-all .ensures)))
+    (λ c. replay-left _ _ _ _ _ _ _ _ _ _ _ _ _ (c .before .before .before .before .before .before .before .before .before .before .before .before .before .before .replay .ensures) (c .before .before .before .before .numbers-of .ensures) (c .before .before .put .ensures)))

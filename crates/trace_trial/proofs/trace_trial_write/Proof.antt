@@ -13,4 +13,4 @@ trace-trial-write-spec =
     (λ c κs. search needs)
     (λ c. search needs)
     (λ c. search needs)
-    (λ c. write-left _ _ _ _ _ _ _ _ (c .before .before .before .before .before .before .before .before .write .ensures) (c .before .before .put-all .ensures)))
+    (λ c. write-left _ _ _ _ _ _ _ _ (c .before .before .before .before .before .before .before .before .write .ensures) (c .before .before .put .ensures)))

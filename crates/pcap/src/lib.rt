@@ -1,0 +1,105 @@
+// A capture: a classic pcap file (02, Wish 7; docs/CAPTURE.md). Its header, and one of its records, put into a room. A room that is too
+// short has as much of them as it has room for.
+ghost use mathlib.Core.Path.{_≡_};
+ghost use Rattle.memory.specs.Memory.{store};
+ghost use Rattle.pcap.specs.Capture.{headerBytes, message, headBytes, recordBytes};
+
+// The bytes of the header.
+pub const HEADER: usize = 24;
+
+// The bytes of a record before its frame.
+pub const HEAD: usize = 16;
+
+// What the header of a file that is read has to hold: its magic,
+pub const MAGIC: u32 = 0xa1b2_c3d4;
+
+// its version, the major one in the lower two bytes, the minor one in the upper two,
+pub const VERSION: u32 = 0x0004_0002;
+
+// and its link type, Ethernet.
+pub const LINK_TYPE: u32 = 1;
+
+// The header of a file that is made.
+fn header() -> [u8; 24]
+    ensures { λ r. ⌜ r ≡ headerBytes ⌝ }
+{
+    [
+        0xd4,
+        0xc3,
+        0xb2,
+        0xa1,
+        2,
+        0,
+        4,
+        0,
+        0,
+        0,
+        0,
+        0,
+        0,
+        0,
+        0,
+        0,
+        0xff,
+        0xff,
+        0,
+        0,
+        1,
+        0,
+        0,
+        0,
+    ]
+}
+
+// Puts it at the front of a room.
+pub fn put_header(room: &mut [u8])
+    ensures { λ _. ⌜ now (room .exit) ≡ store (now (room .entry)) 0 headerBytes ⌝ }
+{
+    memory::store(room, 0, &header());
+}
+
+// A frame without its check sequence.
+fn message(frame: &[u8]) -> &[u8]
+    ensures { λ r. ⌜ now r ≡ message (now (frame .entry)) ⌝ }
+{
+    if frame.len() < 4 {
+        return memory::part(frame, 0, 0);
+    }
+    memory::part(frame, 0, frame.len() - 4)
+}
+
+// The bytes of a record before a frame that has so many without its check sequence.
+fn head(seconds: u32, microseconds: u32, n: usize) -> [u8; 16]
+    ensures { λ r. ⌜ r ≡ headBytes seconds microseconds n n ⌝ }
+{
+    [
+        (seconds % 256) as u8,
+        (seconds / 256 % 256) as u8,
+        (seconds / 256 / 256 % 256) as u8,
+        (seconds / 256 / 256 / 256 % 256) as u8,
+        (microseconds % 256) as u8,
+        (microseconds / 256 % 256) as u8,
+        (microseconds / 256 / 256 % 256) as u8,
+        (microseconds / 256 / 256 / 256 % 256) as u8,
+        (n % 256) as u8,
+        (n / 256 % 256) as u8,
+        (n / 256 / 256 % 256) as u8,
+        (n / 256 / 256 / 256 % 256) as u8,
+        (n % 256) as u8,
+        (n / 256 % 256) as u8,
+        (n / 256 / 256 % 256) as u8,
+        (n / 256 / 256 / 256 % 256) as u8,
+    ]
+}
+
+// Puts the record of a frame into a room from a place on.
+pub fn put_record(room: &mut [u8], at: usize, seconds: u32, microseconds: u32, frame: &[u8])
+    ensures { λ _. ⌜ now (room .exit) ≡ store (now (room .entry)) at (recordBytes (record { seconds = seconds; microseconds = microseconds; frame = now (frame .entry) })) ⌝ }
+{
+    if room.len() <= at {
+        return;
+    }
+    let message = message(frame);
+    memory::store(room, at, &head(seconds, microseconds, message.len()));
+    memory::store(room, at + HEAD, message);
+}

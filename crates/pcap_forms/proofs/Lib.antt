@@ -1,0 +1,5 @@
+pub mod Back
+pub mod Checks
+pub mod Entries
+pub mod Form
+pub mod Records

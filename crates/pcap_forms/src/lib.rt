@@ -1,0 +1,1 @@
+// What a capture is made of and read to: specs/, proved in proofs/. No code.

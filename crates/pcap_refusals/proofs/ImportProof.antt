@@ -1,0 +1,149 @@
+-- Import is refused exactly in the situations named, a refusal changes nothing, and of the header three numbers are not read.
+-- Assumes nothing.
+use Prim.Native.Nat.{ℕ, _+_, _≤_, _<_}
+use mathlib.Core.Path.{_≡_, refl, sym, ap, _∙_}
+use mathlib.Core.Bool.{Bool, true, false, not}
+use mathlib.Core.Logic.{_⊎_, inl, inr}
+use mathlib.Core.List.{List}
+use native.Mathlib.Omega.{arith}
+use native.Mathlib.Nat.{zero-add}
+use lib.Dec.{eqb, ltb}
+use lib.ListN.{length, take, drop}
+use lib.Seq.{drop-drop}
+use borrow.Author.Tests.{ltb-true, ltb-false, eq-eqb, ne-eqb, eqb-true, eqb-false}
+use Rattle.rules.specs.Choice.{if_then_else_, _otherwise_}
+use Rattle.rules.proofs.Choices.{by-bool}
+use Rattle.memory.specs.Memory.{word, store}
+use Rattle.memory.proofs.Parts.{word-from, word-in}
+use Rattle.pieces.specs.Pieces.{pieces, behind, joined}
+use Rattle.pieces.proofs.Joined.{whole}
+use Rattle.pieces.proofs.Turns.{stopped}
+use Rattle.pcap.specs.Capture.{magic, version, linkType}
+use Rattle.pcap_records.specs.Records.{cutRecord, unequalLengths, recordSize, recordFault, recordsFault}
+use Rattle.pcap_records.proofs.Laws.{fits}
+use Rattle.pcap_import.specs.Import.{headerFault, importedFrames, eventsOf, timesOf, tooLittle, importNumber, look, import}
+use Rattle.pcap_import.proofs.Ways.{no-more}
+use Rattle.pcap_refusals.specs.Import.{Header, FirstWrong, NoneWrong, Says, Exactly, ChangesNothing, Alike, NotRead}
+
+-- ---- the records
+
+abbrev Walked : List ℕ → Type 0
+Walked s = (FirstWrong s (recordsFault s) × (recordsFault s ≡ 0 → ⊥)) ⊎ (NoneWrong s × (recordsFault s ≡ 0))
+
+none-wrong : (s : List ℕ) → recordsFault s ≡ 0 → NoneWrong s
+none-wrong s e = whole recordSize fits s (no-more s e)
+
+walked : (s : List ℕ) → Walked s
+unfolding recordsFault recordFault
+walked s =
+    let r = behind recordSize s in
+    by-bool (eqb (length r) 0) (λ t. let z : recordsFault s ≡ 0 = rw t in inr (none-wrong s z, z))
+    (λ t.
+    let some = eqb-false (length r) 0 t in
+    by-bool (cutRecord r)
+    (λ u. inl ((omega arith, inl (u, rw (t, u))), λ q. let z : _≡_ {A = ℕ} 35 0 = rw (t, u) at q in omega arith))
+    (λ u.
+    by-bool (unequalLengths r)
+    (λ v. inl ((omega arith, inr (u, v, rw (t, u, v))), λ q. let z : _≡_ {A = ℕ} 36 0 = rw (t, u, v) at q in omega arith))
+    (λ v. let z : recordsFault s ≡ 0 = rw (t, u, v) in inr (none-wrong s z, z))))
+
+-- ---- the number
+
+module _ (file : List ℕ) (events times : ℕ) where
+  -- a header that is asked for, then the records, then the room
+  by-header : Header file → headerFault file ≡ 0 → Says file events times
+  unfolding importNumber
+  by-header h e =
+      by-walk (walked (drop 24 file)) e
+    where
+      by-walk : Walked (drop 24 file) → headerFault file ≡ 0 → Says file events times
+      by-walk (inl a) e =
+          inr (inr (inr (inr (inl (h, rw (eq-eqb (headerFault file) 0 e, ne-eqb (recordsFault (drop 24 file)) 0 (a .1)) (a .0))))))
+      by-walk (inr a) e =
+          let r = (eq-eqb (headerFault file) 0 e) in
+          let q = (eq-eqb (recordsFault (drop 24 file)) 0 (a .1)) in
+          by-bool (tooLittle (importedFrames file) events times)
+          (λ t. inr (inr (inr (inr (inr (inl (h, a .0, t, rw (r, q, t))))))))
+          (λ t. inr (inr (inr (inr (inr (inr (h, a .0, t, rw (r, q, t))))))))
+
+  fault-cut : ltb (length file) 24 ≡ true → headerFault file ≡ 31
+  unfolding headerFault
+  fault-cut t = rw t
+
+  module _ (t : ltb (length file) 24 ≡ false) where
+    fault-magic : eqb (word file 0) magic ≡ false → headerFault file ≡ 32
+    unfolding headerFault
+    fault-magic u = rw (t, u)
+
+    module _ (u : eqb (word file 0) magic ≡ true) where
+      fault-version : eqb (word file 4) version ≡ false → headerFault file ≡ 33
+      unfolding headerFault
+      fault-version v = rw (t, u, v)
+
+      module _ (v : eqb (word file 4) version ≡ true) where
+        fault-link : eqb (word file 20) linkType ≡ false → headerFault file ≡ 34
+        unfolding headerFault
+        fault-link w = rw (t, u, v, w)
+
+        fault-none : eqb (word file 20) linkType ≡ true → headerFault file ≡ 0
+        unfolding headerFault
+        fault-none w = rw (t, u, v, w)
+
+  -- a refusal of the header
+  by-fault : (n : ℕ) → headerFault file ≡ n → (n ≡ 0 → ⊥) → importNumber file events times ≡ n
+  unfolding importNumber
+  by-fault n e h = rw (e, ne-eqb n 0 h)
+
+  pub exactly-of : Says file events times
+  exactly-of =
+      by-bool (ltb (length file) 24)
+      (λ t. inl (ltb-true (length file) 24 t, by-fault 31 (fault-cut t) (λ q. omega arith)))
+      (λ t.
+      let long = ltb-false (length file) 24 t in
+      by-bool (eqb (word file 0) magic)
+      (λ u.
+      let m = eqb-true (word file 0) magic u in
+      by-bool (eqb (word file 4) version)
+      (λ v.
+      let k = eqb-true (word file 4) version v in
+      by-bool (eqb (word file 20) linkType)
+      (λ w. by-header (long, m, k, eqb-true (word file 20) linkType w) (fault-none t u v w))
+      (λ w. inr (inr (inr (inl (long, m, k, eqb-false (word file 20) linkType w, by-fault 34 (fault-link t u v w) (λ q. omega arith)))))))
+      (λ v. inr (inr (inl (long, m, eqb-false (word file 4) version v, by-fault 33 (fault-version t u v) (λ q. omega arith))))))
+      (λ u. inr (inl (long, eqb-false (word file 0) magic u, by-fault 32 (fault-magic t u) (λ q. omega arith)))))
+
+pub exactly : Exactly
+exactly file events times = exactly-of file events times
+
+pub changes-nothing : ChangesNothing
+unfolding import look
+changes-nothing file events times =
+    by-bool (eqb (importNumber file (length events) (length times)) 0)
+    (λ t. rw t (λ h. absurd (h refl)))
+    (λ t. rw (t, t) (λ h. (refl, refl, refl, refl)))
+
+-- ---- "not read on import"
+
+module _ (f g : List ℕ) (a : Alike f g) where
+  same-front : (k : ℕ) → k + 4 ≤ 8 → word f k ≡ word g k
+  same-front k h =
+      let at : (l : List ℕ) → word (take 8 l) k ≡ word l k = λ l. word-in l 0 8 k h ∙ rw (zero-add k) in
+      sym (at f) ∙ ap (λ (l : List ℕ). word l k) (a .front) ∙ at g
+
+  same-link : word f 20 ≡ word g 20
+  same-link = sym (word-from f 20 0) ∙ ap (λ (l : List ℕ). word l 0) (a .rest) ∙ word-from g 20 0
+
+  same-records : drop 24 f ≡ drop 24 g
+  same-records = sym (drop-drop 4 20 f) ∙ ap (λ (l : List ℕ). drop 4 l) (a .rest) ∙ drop-drop 4 20 g
+
+  same-header : headerFault f ≡ headerFault g
+  unfolding headerFault
+  same-header = rw (a .long, same-front 0 (omega arith), same-front 4 (omega arith), same-link)
+
+  same-number : (events times : ℕ) → importNumber f events times ≡ importNumber g events times
+  unfolding importNumber
+  same-number events times = rw (same-header, same-records)
+
+pub not-read : NotRead
+unfolding import look
+not-read f g events times a = rw (same-number f g a (length events) (length times), same-records f g a)

@@ -1,0 +1,2 @@
+pub mod ExportProof
+pub mod ImportProof
