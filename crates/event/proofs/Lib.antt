@@ -1,3 +1,4 @@
+pub mod Ahead
 pub mod Fronts
 pub mod Laws
 pub mod Places

@@ -51,7 +51,7 @@ pub fn walk(list: &[u8]) -> Listed
 }
 
 // The bytes of an entry before a frame of so many.
-fn head(seconds: u32, microseconds: u32, n: usize) -> [u8; 12]
+fn head(seconds: usize, microseconds: usize, n: usize) -> [u8; 12]
     ensures { λ r. ⌜ r ≡ headBytes seconds microseconds n ⌝ }
 {
     [
@@ -71,8 +71,8 @@ fn head(seconds: u32, microseconds: u32, n: usize) -> [u8; 12]
 }
 
 // Puts a frame with its time behind the first `at` bytes of a list, and answers where its entry ends; 0, and the list as it was, where
-// it has no room.
-pub fn put(list: &mut [u8], at: usize, seconds: u32, microseconds: u32, frame: &[u8]) -> usize
+// it has no room. Of a time that is longer than four bytes the lowest four are put.
+pub fn put(list: &mut [u8], at: usize, seconds: usize, microseconds: usize, frame: &[u8]) -> usize
     ensures { λ r. ⌜ putOf r (now (list .exit)) ≡ put (now (list .entry)) at (entryBytes (record { seconds = seconds; microseconds = microseconds; frame = now (frame .entry) })) ⌝ }
 {
     let head = head(seconds, microseconds, frame.len());

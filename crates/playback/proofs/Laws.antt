@@ -92,14 +92,19 @@ frame-in s =
     There : Front → Type 0
     There x = take (length (frameIn x)) (drop 5 s) ≡ frameIn x
 
+-- so a frame that is found at a place has its bytes there
+pub frame-there : (list : List ℕ) (place : ℕ) (bytes : List ℕ) → front (drop place list) ≡ whole (frame bytes)
+    → take (length bytes) (drop (place + 5) list) ≡ bytes
+frame-there list place bytes h =
+    let k : take (length bytes) (drop 5 (drop place list)) ≡ bytes = rw h at (frame-in (drop place list)) in
+    rw (← drop-drop 5 place list) k
+
 -- what the code finds at a place where a whole event stands is that event's call
 pub act-at : (b : Bench) (out list : List ℕ) (place : ℕ) (e : Event) → front (drop place list) ≡ whole e
     → actAs b out list (found place (front (drop place list))) ≡ act b out e
 act-at b out list place (registerWrite offset value) h = rw h
 act-at b out list place (grant address) h = rw h
-act-at b out list place (frame bytes) h =
-    let k : take (length bytes) (drop 5 (drop place list)) ≡ bytes = rw h at (frame-in (drop place list)) in
-    rw (h, ← drop-drop 5 place list, k)
+act-at b out list place (frame bytes) h = rw (h, frame-there list place bytes h)
 act-at b out list place send h = rw h
 
 -- ---- a turn

@@ -1,0 +1,3 @@
+pub mod Captured
+pub mod Capturing
+pub mod Claims
