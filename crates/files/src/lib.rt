@@ -4,10 +4,7 @@ mod reading;
 
 ghost use Prim.Native.Nat.{_≤_};
 ghost use lib.ListN.{length};
-use libc::STDOUT_FILENO;
-
-// No argument that the system hands to a program is longer.
-const NAME: usize = 131_072;
+use arguments::WORD;
 
 // What came of reading a file: whether it could be opened and read, how many of its bytes are at the buffer's front, and
 // whether it has more than those.
@@ -36,20 +33,18 @@ fn read_or_say(path: &[u8], buffer: &mut [u8]) -> Got
 {
     let got = read(path, buffer);
     if !got.ok {
-        io::write_all(STDOUT_FILENO, b"error ");
-        io::write_all(STDOUT_FILENO, path);
-        io::write_all(STDOUT_FILENO, b"\n");
+        arguments::wrong(path);
     }
     got
 }
 
 // Puts an argument at the front of a buffer, and answers its length.
-fn argument(i: usize, name: &mut [u8; NAME]) -> usize {
-    os::arg(i, name)
+fn argument(i: usize, name: &mut [u8; WORD]) -> usize {
+    arguments::fetch(i, name)
 }
 
 // The name of so many characters.
-fn named(name: &[u8; NAME], n: usize) -> &[u8] {
+fn named(name: &[u8; WORD], n: usize) -> &[u8] {
     memory::part(name, 0, n)
 }
 
@@ -57,7 +52,7 @@ fn named(name: &[u8; NAME], n: usize) -> &[u8] {
 pub fn load(i: usize, buffer: &mut [u8]) -> Got
     ensures { λ r. ⌜ r .count ≤ length (now (buffer .exit)) ⌝ }
 {
-    let mut name = [0u8; NAME];
+    let mut name = [0u8; WORD];
     let n = argument(i, &mut name);
     read_or_say(named(&name, n), buffer)
 }

@@ -12,6 +12,16 @@ fn place(from: &[u8], path: &[u8]) -> bool {
     false
 }
 
+// The same as a number: 0 where it stands there, 1 where it cannot.
+pub(crate) fn place_one(from: &[u8], path: &[u8]) -> u32
+    ensures { λ r. ⌜ r ≤ 1 ⌝ }
+{
+    if place(from, path) {
+        return 0;
+    }
+    1
+}
+
 // What was in a file's place: nothing, a file that was set aside, or something that cannot be set aside, as a folder.
 enum Before {
     Nothing,

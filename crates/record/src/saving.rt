@@ -31,7 +31,7 @@ pub(crate) fn saved(day: Day, image: &[u8; IMAGE], list: &[u8; LIST], trace: &mu
         messages::numbered(b"refused ", written.number as u64);
         return;
     }
-    let failed = day_files::make(
+    let failed = target_files::make_both(
         1,
         memory::part(trace, 0, size(written.blocks)),
         2,

@@ -1,8 +1,8 @@
 // Replays a recorded day, and writes what each of its events answered (docs/TRACE.md).
 mod day;
 
-use files::Got;
 use libc::STDOUT_FILENO;
+use recorded_days::Loaded;
 use trace::Summary;
 
 // A trace of 4,096 blocks.
@@ -14,18 +14,14 @@ const EVENTS: usize = 2_064_378;
 // The most bytes that are taken of the memory image.
 const MEMORY: usize = 98_312;
 
-// The trace and the memory image, each into a buffer of its own.
-fn load_trace(buffer: &mut [u8; TRACE]) -> Got {
-    files::load(1, buffer)
+// Both files of the day, each into a buffer of its own.
+fn load(trace: &mut [u8; TRACE], memory: &mut [u8; MEMORY]) -> Loaded {
+    recorded_days::load(trace, memory)
 }
 
-fn load_memory(buffer: &mut [u8; MEMORY]) -> Got {
-    files::load(2, buffer)
-}
-
-// What a trace says, and its events in one piece.
-fn read(trace: &[u8], events: &mut [u8; EVENTS]) -> Summary {
-    trace::read(trace, events)
+// What the trace says, and its events in one piece.
+fn read(loaded: Loaded, trace: &[u8; TRACE], events: &mut [u8; EVENTS]) -> Summary {
+    recorded_days::read(loaded, trace, events)
 }
 
 // The first of them.
@@ -33,10 +29,10 @@ fn first(events: &[u8; EVENTS], n: usize) -> &[u8] {
     memory::part(events, 0, n)
 }
 
-// Replays a trace, or says why not.
-fn replay(trace: &[u8], memory: &mut [u8; MEMORY], lent: usize) {
+// Replays a day, or says why not.
+fn replay(loaded: Loaded, trace: &[u8; TRACE], memory: &mut [u8; MEMORY]) {
     let mut events = [0u8; EVENTS];
-    let summary = read(trace, &mut events);
+    let summary = read(loaded, trace, &mut events);
     if summary.number != answer::DONE {
         day::refused(summary.number, summary.block);
         return;
@@ -47,17 +43,8 @@ fn replay(trace: &[u8], memory: &mut [u8; MEMORY], lent: usize) {
         summary.window,
         first(&events, n),
         memory,
-        lent,
+        loaded.memory,
     );
-}
-
-// The same for what was read of a file, where that is all of it.
-fn replay_read(trace: &[u8; TRACE], read: Got, memory: &mut [u8; MEMORY], lent: usize) {
-    if read.more {
-        day::refused(answer::EVENT_ROOM, 0);
-        return;
-    }
-    replay(memory::part(trace, 0, read.count), memory, lent);
 }
 
 fn main() {
@@ -67,13 +54,8 @@ fn main() {
     }
     let mut trace = [0u8; TRACE];
     let mut memory = [0u8; MEMORY];
-    let read = load_trace(&mut trace);
-    if !read.ok {
-        return;
+    let loaded = load(&mut trace, &mut memory);
+    if loaded.ok {
+        replay(loaded, &trace, &mut memory);
     }
-    let image = load_memory(&mut memory);
-    if !image.ok {
-        return;
-    }
-    replay_read(&trace, read, &mut memory, image.count);
 }
