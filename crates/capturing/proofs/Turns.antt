@@ -53,7 +53,7 @@ found-is c list place i send h = rw h
 
 turn : (c : Capturing) (list : List ℕ) (place i : ℕ) (e : Event) → front (drop place list) ≡ whole e
     → captureAll c i (walk (drop place list) .events)
-      ≡ captureAll (next c i list (found place (front (drop place list)))) (suc i) (walk (drop (place + size e) list) .events)
+    ≡ captureAll (next c i list (found place (front (drop place list)))) (suc i) (walk (drop (place + size e) list) .events)
 unfolding captureAll
 turn c list place i e h = rw (walk-on (drop place list) e h, found-is c list place i e h, drop-drop (size e) place list)
 

@@ -22,7 +22,7 @@ pub record Captures (base window : ℕ) (memory output list : List ℕ) (es : Li
       let bytes = listBytes (capturedFrom 0 (benchOf (new base window .device) memory) output es) in
       length bytes ≤ length list
       → captureAll (begun base window memory output list) 0 es .listing
-          ≡ record { bytes = length bytes; full = false; list = store list 0 bytes }
+      ≡ record { bytes = length bytes; full = false; list = store list 0 bytes }
   -- or it is told that they have no room
   pub full :
       let bytes = listBytes (capturedFrom 0 (benchOf (new base window .device) memory) output es) in

@@ -4,6 +4,7 @@ mod reading;
 
 ghost use Prim.Native.Nat.{_≤_};
 ghost use lib.ListN.{length};
+ghost use Rattle.io.specs.Counts.{Counts};
 use arguments::WORD;
 
 // What came of reading a file: whether it could be opened and read, how many of its bytes are at the buffer's front, and
@@ -12,6 +13,13 @@ pub struct Got {
     pub ok: bool,
     pub count: usize,
     pub more: bool,
+}
+
+// How many bytes of a buffer are taken, where at most n are: n, or all of them where that is less.
+pub fn within(n: usize, buffer: &[u8]) -> usize
+    ensures { λ r. ⌜ Counts r (now (buffer .entry)) ⌝ }
+{
+    if n < buffer.len() { n } else { buffer.len() }
 }
 
 // Reads a file until it ends or the buffer is full. A folder cannot be read.

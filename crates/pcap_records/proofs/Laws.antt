@@ -1,19 +1,19 @@
 -- The record at a place, by the ways out of the code. Assumes nothing.
 use Prim.Native.Nat.{ℕ, _+_, _-_, _≤_, _<_}
-use mathlib.Core.Path.{_≡_, refl, sym, ap, _∙_}
-use mathlib.Core.Bool.{Bool, true, false, not}
+use mathlib.Core.Path.{_≡_, refl, sym, _∙_}
+use mathlib.Core.Bool.{true, false}
 use mathlib.Core.List.{List}
 use native.Mathlib.Omega.{arith}
 use lib.Dec.{eqb, ltb}
 use lib.ListN.{length, drop, length-drop}
-use borrow.Author.Tests.{lt-ltb, le-ltb, ltb-true, ltb-false, eq-eqb, ne-eqb}
+use borrow.Author.Tests.{lt-ltb, le-ltb, ltb-false, eq-eqb, ne-eqb}
 use Rattle.rules.specs.Choice.{if_then_else_}
-use Rattle.rules.proofs.Choices.{by-bool, by-test, if-yes, if-no, is-or-yes, is-or, or-parts, said}
+use Rattle.rules.proofs.Choices.{by-test, if-yes, if-no, or-yes, or-last, or-no, or-parts}
 use Rattle.memory.specs.Memory.{word}
 use Rattle.memory.proofs.Parts.{word-from}
-use Rattle.memory.proofs.Laws.{word-out}
 use Rattle.pieces.proofs.Turns.{Fits}
-use Rattle.pcap_records.specs.Records.{cutRecord, unequalLengths, recordSize, recordFault}
+use Rattle.pcap_records.specs.declared.Found.{Found}
+use Rattle.pcap_records.specs.Records.{cutRecord, unequalLengths, recordSize, recordFault, found}
 
 -- ---- the size of a record
 
@@ -32,87 +32,62 @@ least s =
     by-test (λ n. (n ≡ 0 → ⊥) → 16 ≤ n) (cutRecord s) _ _ (λ t h. absurd (h refl))
     (λ t. by-test (λ n. (n ≡ 0 → ⊥) → 16 ≤ n) (unequalLengths s) _ _ (λ u h. absurd (h refl)) (λ u h. omega arith))
 
+-- ---- what stands at a place, by the ways out of the code
+
+same : {a b c d : ℕ} → a ≡ b → c ≡ d → _≡_ {A = Found} (record { size = a; number = c }) (record { size = b; number = d })
+same p q = λ i. record { size = p i; number = q i }
+
 module _ (s : List ℕ) (p : ℕ) where
-  -- ---- whether it is cut
+  long : length (drop p s) ≡ length s - p
+  long = length-drop p s
 
-  short : length s - p < 16 → true ≡ cutRecord (drop p s)
-  unfolding cutRecord
-  short h = is-or-yes _ _ (lt-ltb (length (drop p s)) 16 (rw (length-drop p s) h))
-
-  pub none-left : length s ≤ p → true ≡ cutRecord (drop p s)
-  none-left h = short (omega arith)
-
-  pub no-head : length s - p < 16 → true ≡ cutRecord (drop p s)
-  no-head h = short h
-
-  pub by-captured : (n : ℕ) → 16 ≤ length s - p → n ≡ word s (p + 8) → ltb (length s - p - 16) n ≡ cutRecord (drop p s)
-  unfolding cutRecord
-  by-captured n h e =
-      let l = length-drop p s in
-      let w : word (drop p s) 8 ≡ n = word-from s p 8 ∙ sym e in
-      is-or _ _ _ (le-ltb (length (drop p s)) 16 (omega arith)) (rw (w, l) (less (length s - p) n h))
-    where
-      less : (a n : ℕ) → 16 ≤ a → ltb (a - 16) n ≡ ltb a (16 + n)
-      less a n h = by-bool (ltb a (16 + n)) (λ t. lt-ltb (a - 16) n (let l = ltb-true a (16 + n) t in omega arith) ∙ sym t) (λ t. le-ltb (a - 16) n (let l = ltb-false a (16 + n) t in omega arith) ∙ sym t)
-
-  -- ---- whether its lengths are unequal
-
-  pub equal-none : length s ≤ p → false ≡ unequalLengths (drop p s)
-  unfolding unequalLengths
-  equal-none h =
-      let l = length-drop p s in
-      let a = word-out (drop p s) 8 (omega arith) in
-      let b = word-out (drop p s) 12 (omega arith) in
-      rw (a, b)
-
-  pub by-lengths : (a b : ℕ) → a ≡ word s (p + 8) → b ≡ word s (p + 12) → not (eqb a b) ≡ unequalLengths (drop p s)
-  unfolding unequalLengths
-  by-lengths a b e d = rw (e, d, word-from s p 8, word-from s p 12)
-
-  -- ---- its size
-
-  pub none-there : length s ≤ p → 0 ≡ recordSize (drop p s)
-  unfolding recordSize
-  none-there h = if-yes _ _ _ _ (sym (none-left h)) refl
-
-  module _ (t : Bool) (e : t ≡ cutRecord (drop p s)) where
-    pub cut-none : t ≡ true → 0 ≡ recordSize (drop p s)
-    unfolding recordSize
-    cut-none h = if-yes _ _ _ _ (said _ t true e h) refl
-
-    module _ (h : t ≡ false) (u : Bool) (d : u ≡ unequalLengths (drop p s)) where
-      pub unequal-none : u ≡ true → 0 ≡ recordSize (drop p s)
-      unfolding recordSize
-      unequal-none g = if-no _ _ _ _ (said _ t false e h) (if-yes _ _ _ _ (said _ u true d g) refl)
-
-      pub whole-record : (n : ℕ) → u ≡ false → n ≡ word s (p + 8) → 16 + n ≡ recordSize (drop p s)
-      unfolding recordSize
-      whole-record n g k =
-          if-no _ _ _ _ (said _ t false e h) (if-no _ _ _ _ (said _ u false d g) (rw (k, word-from s p 8)))
-
-  -- ---- its fault
-
-  pub nothing-left : length s ≤ p → 0 ≡ recordFault (drop p s)
-  unfolding recordFault
+  pub nothing-left : length s ≤ p → _≡_ {A = Found} (record { size = 0; number = 0 }) (found (drop p s))
+  unfolding recordSize recordFault cutRecord
   nothing-left h =
-      let l = length-drop p s in
-      if-yes _ _ _ _ (eq-eqb (length (drop p s)) 0 (omega arith)) refl
+      let l = long in
+      let cut = or-yes (ltb (length (drop p s)) 16) _ (lt-ltb (length (drop p s)) 16 (omega arith)) in
+      let none = eq-eqb (length (drop p s)) 0 (omega arith) in
+      same (if-yes _ _ _ _ cut refl) (if-yes _ _ _ _ none refl)
 
-  module _ (l : p < length s) (t : Bool) (e : t ≡ cutRecord (drop p s)) where
-    left : eqb (length (drop p s)) 0 ≡ false
-    left =
-        let k = length-drop p s in
+  module _ (here : p < length s) where
+    some : eqb (length (drop p s)) 0 ≡ false
+    some =
+        let l = long in
         ne-eqb (length (drop p s)) 0 (λ q. omega arith)
 
-    pub cut-here : t ≡ true → 35 ≡ recordFault (drop p s)
-    unfolding recordFault
-    cut-here h = if-no _ _ _ _ left (if-yes _ _ _ _ (said _ t true e h) refl)
+    by-cut : cutRecord (drop p s) ≡ true → _≡_ {A = Found} (record { size = 0; number = 35 }) (found (drop p s))
+    unfolding recordSize recordFault
+    by-cut t = same (if-yes _ _ _ _ t refl) (if-no _ _ _ _ some (if-yes _ _ _ _ t refl))
 
-    module _ (h : t ≡ false) (u : Bool) (d : u ≡ unequalLengths (drop p s)) where
-      pub unequal-here : u ≡ true → 36 ≡ recordFault (drop p s)
-      unfolding recordFault
-      unequal-here g = if-no _ _ _ _ left (if-no _ _ _ _ (said _ t false e h) (if-yes _ _ _ _ (said _ u true d g) refl))
+    pub cut-head : length s - p < 16 → _≡_ {A = Found} (record { size = 0; number = 35 }) (found (drop p s))
+    unfolding cutRecord
+    cut-head h = by-cut (or-yes _ _ (lt-ltb (length (drop p s)) 16 (rw long h)))
 
-      pub right-here : u ≡ false → 0 ≡ recordFault (drop p s)
-      unfolding recordFault
-      right-here g = if-no _ _ _ _ left (if-no _ _ _ _ (said _ t false e h) (if-no _ _ _ _ (said _ u false d g) refl))
+    module _ (n : ℕ) (head : 16 ≤ length s - p) (e : n ≡ word s (p + 8)) where
+      captured : word (drop p s) 8 ≡ n
+      captured = word-from s p 8 ∙ sym e
+
+      pub cut-frame : length s - p - 16 < n → _≡_ {A = Found} (record { size = 0; number = 35 }) (found (drop p s))
+      unfolding cutRecord
+      cut-frame h =
+          let l = long in
+          by-cut (or-last _ _ (le-ltb (length (drop p s)) 16 (omega arith)) (rw captured (lt-ltb (length (drop p s)) (16 + n) (omega arith))))
+
+      module _ (h : n ≤ length s - p - 16) (m : ℕ) (d : m ≡ word s (p + 12)) where
+        whole : cutRecord (drop p s) ≡ false
+        unfolding cutRecord
+        whole =
+            let l = long in
+            or-no _ _ (le-ltb (length (drop p s)) 16 (omega arith)) (rw captured (le-ltb (length (drop p s)) (16 + n) (omega arith)))
+
+        pub unequal : (n ≡ m → ⊥) → _≡_ {A = Found} (record { size = 0; number = 36 }) (found (drop p s))
+        unfolding recordSize recordFault unequalLengths
+        unequal g =
+            let t : unequalLengths (drop p s) ≡ true = rw (captured, word-from s p 12, ← d, ne-eqb n m g) in
+            same (if-no _ _ _ _ whole (if-yes _ _ _ _ t refl)) (if-no _ _ _ _ some (if-no _ _ _ _ whole (if-yes _ _ _ _ t refl)))
+
+        pub equal : n ≡ m → _≡_ {A = Found} (record { size = 16 + n; number = 0 }) (found (drop p s))
+        unfolding recordSize recordFault unequalLengths
+        equal g =
+            let t : unequalLengths (drop p s) ≡ false = rw (captured, word-from s p 12, ← d, eq-eqb n m g) in
+            same (if-no _ _ _ _ whole (if-no _ _ _ _ t (rw captured))) (if-no _ _ _ _ some (if-no _ _ _ _ whole (if-no _ _ _ _ t refl)))

@@ -14,8 +14,9 @@ use Rattle.fcs.proofs.Meaning.{length-sequence}
 use Rattle.pieces.specs.Pieces.{pieces, sizes, behind}
 use Rattle.pieces.proofs.Turns.{turn, stop, lies, has}
 use Rattle.pcap.specs.Capture.{Captured}
+use Rattle.pcap_records.specs.declared.Found.{Found}
 use Rattle.pcap_records.specs.declared.Walked.{Walked}
-use Rattle.pcap_records.specs.Records.{recordSize, recordFault, recordsFault, withCheck, capturedOf, framesOf, storable, allStorable, walked}
+use Rattle.pcap_records.specs.Records.{recordSize, recordFault, recordsFault, withCheck, capturedOf, framesOf, storable, allStorable, found, walked}
 use Rattle.pcap_records.proofs.Laws.{fits, least}
 
 -- ---- how long a frame is
@@ -65,52 +66,63 @@ and-true false = refl
 abbrev pub ahead : List ℕ → ℕ → List Captured
 ahead s place = map capturedOf (pieces recordSize (drop place s))
 
-pub record Walking (s : List ℕ) (place frames : ℕ) (fit : Bool) (n : ℕ) : Type 0 where
-  pub here : n ≡ recordSize (drop place s)
+pub record Walking (s : List ℕ) (place frames : ℕ) (fit : Bool) (f : Found) : Type 0 where
+  pub here : f ≡ found (drop place s)
   pub few : frames ≤ place
   pub inside : place ≤ length s
   pub bytes : place + sizes (pieces recordSize (drop place s)) ≡ sizes (pieces recordSize s)
   pub count : frames + length (ahead s place) ≡ length (framesOf s)
   pub fitting : (fit && allStorable (ahead s place)) ≡ allStorable (framesOf s)
 
+-- how many bytes the record here has
+pub size-here : (s : List ℕ) (place : ℕ) (f : Found) → f ≡ found (drop place s) → f .size ≡ recordSize (drop place s)
+size-here s place f e = ap (λ (g : Found). g .size) e
+
 module _ (s : List ℕ) where
-  pub walking-begins : (n : ℕ) → n ≡ recordSize (drop 0 s) → Walking s 0 0 true n
+  pub walking-begins : (f : Found) → f ≡ found (drop 0 s) → Walking s 0 0 true f
   unfolding framesOf
-  walking-begins n e = record { here = e; few = omega arith; inside = omega arith; bytes = omega arith; count = omega arith; fitting = refl }
+  walking-begins f e =
+      record { here = e; few = omega arith; inside = omega arith; bytes = omega arith; count = omega arith; fitting = refl }
 
-  pub walking-room : (place frames : ℕ) (fit : Bool) (n : ℕ) → Walking s place frames fit n → place + n ≤ length s
-  walking-room place frames fit n w = lies recordSize fits s place n (w .here) (w .inside)
+  module _ (place frames : ℕ) (fit : Bool) (f : Found) (w : Walking s place frames fit f) where
+    here : f .size ≡ recordSize (drop place s)
+    here = size-here s place f (w .here)
 
-  pub walking-on : (place frames : ℕ) (fit fit′ : Bool) (n m : ℕ) → Walking s place frames fit n → (n ≡ 0 → ⊥) → fit′ ≡ (fit && ltb n 4294967308)
-      → m ≡ recordSize (drop (place + n) s) → Walking s (place + n) (frames + 1) fit′ m
-  unfolding allStorable
-  walking-on place frames fit fit′ n m w some ef e =
-      let t = turn recordSize fits s place n (w .here) some in
-      let x = take n (drop place s) in
-      let h : length x ≡ n = has recordSize fits s place n (w .here) in
-      let here = w .here in
-      let l : 16 ≤ length x = let k = least (drop place s) (λ q. some (here ∙ q)) in omega arith in
-      let b = w .bytes in
-      let few = w .few in
-      let bs : place + (length x + sizes (pieces recordSize (drop (place + n) s))) ≡ sizes (pieces recordSize s) = rw t at b in
-      let one : ahead s place ≡ capturedOf x ∷ ahead s (place + n) = ap (λ (xs : List (List ℕ)). map capturedOf xs) t in
-      let c = ap (λ (cs : List Captured). frames + length cs) (sym one) ∙ w .count in
-      let f : (fit′ && allStorable (ahead s (place + n))) ≡ allStorable (framesOf s) =
-      ap (λ (a : Bool). a && allStorable (ahead s (place + n))) (ef ∙ ap (λ (a : Bool). fit && a) (same-test x n l h))
-      ∙ and-assoc fit (storable (capturedOf x .frame)) (allStorable (ahead s (place + n)))
-      ∙ ap (λ (cs : List Captured). fit && allStorable cs) (sym one)
-      ∙ w .fitting in
-      record { here = e; few = omega arith; inside = walking-room place frames fit n w; bytes = omega arith; count = omega arith; fitting = f }
+    pub walking-room : place + f .size ≤ length s
+    walking-room = lies recordSize fits s place (f .size) here (w .inside)
 
-  pub walking-ends : (place frames : ℕ) (fit : Bool) (n number : ℕ) → Walking s place frames fit n → n ≡ 0 → number ≡ recordFault (drop place s)
-      → _≡_ {A = Walked} (record { number = number; frames = frames; storable = fit }) (walked s)
-  unfolding recordsFault allStorable
-  walking-ends place frames fit n number w z e =
-      let t = stop recordSize fits s place n (w .here) z in
-      let b : place + 0 ≡ sizes (pieces recordSize s) = rw t at (w .bytes) in
-      let p : place ≡ sizes (pieces recordSize s) = omega arith in
-      let none : ahead s place ≡ [] = ap (λ (xs : List (List ℕ)). map capturedOf xs) t in
-      let f : frames ≡ length (framesOf s) = sym (add-zero frames) ∙ ap (λ (cs : List Captured). frames + length cs) (sym none) ∙ w .count in
-      let g : fit ≡ allStorable (framesOf s) = sym (and-true fit) ∙ ap (λ (cs : List Captured). fit && allStorable cs) (sym none) ∙ w .fitting in
-      let k : number ≡ recordFault (drop (sizes (pieces recordSize s)) s) = e ∙ rw p in
-      λ i. record { number = k i; frames = f i; storable = g i }
+    pub walking-on : (fit′ : Bool) (g : Found) → (f .size ≡ 0 → ⊥) → fit′ ≡ (fit && ltb (f .size) 4294967308) → g ≡ found (drop (place + f .size) s)
+        → Walking s (place + f .size) (frames + 1) fit′ g
+    unfolding allStorable
+    walking-on fit′ g some ef e =
+        let n = f .size in
+        let t = turn recordSize fits s place n here some in
+        let x = take n (drop place s) in
+        let h : length x ≡ n = has recordSize fits s place n here in
+        let k = here in
+        let l : 16 ≤ length x =
+        let m = least (drop place s) (λ q. some (k ∙ q)) in
+        omega arith in
+        let b = w .bytes in
+        let few = w .few in
+        let bs : place + (length x + sizes (pieces recordSize (drop (place + n) s))) ≡ sizes (pieces recordSize s) = rw t at b in
+        let one : ahead s place ≡ capturedOf x ∷ ahead s (place + n) = ap (λ (xs : List (List ℕ)). map capturedOf xs) t in
+        let c = ap (λ (cs : List Captured). frames + length cs) (sym one) ∙ w .count in
+        let a : (fit′ && allStorable (ahead s (place + n))) ≡ allStorable (framesOf s) =
+        ap (λ (y : Bool). y && allStorable (ahead s (place + n))) (ef ∙ ap (λ (y : Bool). fit && y) (same-test x n l h))
+        ∙ and-assoc fit (storable (capturedOf x .frame)) (allStorable (ahead s (place + n)))
+        ∙ ap (λ (cs : List Captured). fit && allStorable cs) (sym one)
+        ∙ w .fitting in
+        record { here = e; few = omega arith; inside = walking-room; bytes = omega arith; count = omega arith; fitting = a }
+
+    pub walking-ends : f .size ≡ 0 → _≡_ {A = Walked} (record { number = f .number; frames = frames; storable = fit }) (walked s)
+    unfolding recordsFault allStorable
+    walking-ends z =
+        let t = stop recordSize fits s place (f .size) here z in
+        let b : place + 0 ≡ sizes (pieces recordSize s) = rw t at (w .bytes) in
+        let p : place ≡ sizes (pieces recordSize s) = omega arith in
+        let none : ahead s place ≡ [] = ap (λ (xs : List (List ℕ)). map capturedOf xs) t in
+        let q : frames ≡ length (framesOf s) = sym (add-zero frames) ∙ ap (λ (cs : List Captured). frames + length cs) (sym none) ∙ w .count in
+        let g : fit ≡ allStorable (framesOf s) = sym (and-true fit) ∙ ap (λ (cs : List Captured). fit && allStorable cs) (sym none) ∙ w .fitting in
+        let k : f .number ≡ recordFault (drop (sizes (pieces recordSize s)) s) = ap (λ (y : Found). y .number) (w .here) ∙ rw p in
+        λ i. record { number = k i; frames = q i; storable = g i }

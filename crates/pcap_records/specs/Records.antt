@@ -10,6 +10,7 @@ use Rattle.memory.specs.Memory.{word}
 use Rattle.fcs.specs.CheckSequence.{checkSequence}
 use Rattle.pieces.specs.Pieces.{pieces, behind}
 use Rattle.pcap.specs.Capture.{Captured}
+use Rattle.pcap_records.specs.declared.Found.{Found}
 use Rattle.pcap_records.specs.declared.Walked.{Walked}
 
 -- the record at the front is cut: in its 16 bytes, or in the bytes of its captured length behind them
@@ -60,6 +61,9 @@ allStorable [] = true
 allStorable (c ∷ cs) = storable (c .frame) && allStorable cs
 
 -- ---- as the code answers it
+
+abbrev pub found : List ℕ → Found
+found s = record { size = recordSize s; number = recordFault s }
 
 abbrev pub walked : List ℕ → Walked
 walked s =

@@ -3,7 +3,7 @@ ghost use mathlib.Core.Path.{_≡_};
 ghost use mathlib.Core.Bool.{_&&_};
 ghost use lib.Dec.{ltb};
 ghost use lib.ListN.{drop};
-ghost use Rattle.pcap_records.specs.Records.{cutRecord, unequalLengths, recordSize, recordFault, walked};
+ghost use Rattle.pcap_records.specs.Records.{recordSize, found, walked};
 
 // What the records are: 0 where all are right, else the number of the first that is wrong; how many are before it, and whether the
 // frame of each of these has a length of 32 bits with its check sequence.
@@ -16,60 +16,55 @@ pub struct Walked {
 // So many bytes has a record whose frame has no length of 32 bits with its check sequence, or more.
 const LONG: usize = 4_294_967_308;
 
-// Whether the record at a place is cut.
-fn is_cut(records: &[u8], place: usize) -> bool
-    ensures { λ r. ⌜ r ≡ cutRecord (drop place (now (records .entry))) ⌝ }
+// What stands at a place: the bytes of a record that is whole and has equal lengths, or 0 and why there is none; both are 0 where no byte
+// is left.
+struct Found {
+    size: usize,
+    number: u32,
+}
+
+// A record's length is read once: a walk asks this of every record.
+fn at(records: &[u8], place: usize) -> Found
+    ensures { λ r. ⌜ r ≡ found (drop place (now (records .entry))) ⌝ }
 {
     if records.len() <= place {
-        return true;
+        return Found {
+            size: 0,
+            number: answer::DONE,
+        };
     }
     let left = records.len() - place;
     if left < pcap::HEAD {
-        return true;
+        return Found {
+            size: 0,
+            number: answer::RECORD,
+        };
     }
-    left - pcap::HEAD < memory::word(records, place + 8) as usize
+    let n = memory::word(records, place + 8);
+    if left - pcap::HEAD < n as usize {
+        return Found {
+            size: 0,
+            number: answer::RECORD,
+        };
+    }
+    if n != memory::word(records, place + 12) {
+        return Found {
+            size: 0,
+            number: answer::RECORD_LENGTHS,
+        };
+    }
+    Found {
+        size: pcap::HEAD + n as usize,
+        number: answer::DONE,
+    }
 }
 
-// Whether its two lengths are unequal.
-fn is_unequal(records: &[u8], place: usize) -> bool
-    ensures { λ r. ⌜ r ≡ unequalLengths (drop place (now (records .entry))) ⌝ }
-{
-    if records.len() <= place {
-        return false;
-    }
-    memory::word(records, place + 8) != memory::word(records, place + 12)
-}
-
-// How many bytes it has, 0 where it is cut or its lengths are unequal.
+// How many bytes the record at a place has, 0 where it is cut or its lengths are unequal.
 pub fn size_at(records: &[u8], place: usize) -> usize
     ensures { λ r. ⌜ r ≡ recordSize (drop place (now (records .entry))) ⌝ }
 {
-    if records.len() <= place {
-        return 0;
-    }
-    if is_cut(records, place) {
-        return 0;
-    }
-    if is_unequal(records, place) {
-        return 0;
-    }
-    pcap::HEAD + memory::word(records, place + 8) as usize
-}
-
-// Why there is no record more.
-fn fault_at(records: &[u8], place: usize) -> u32
-    ensures { λ r. ⌜ r ≡ recordFault (drop place (now (records .entry))) ⌝ }
-{
-    if records.len() <= place {
-        return answer::DONE;
-    }
-    if is_cut(records, place) {
-        return answer::RECORD;
-    }
-    if is_unequal(records, place) {
-        return answer::RECORD_LENGTHS;
-    }
-    answer::DONE
+    let found = at(records, place);
+    found.size
 }
 
 // Whether the frames before and that of a record of n bytes are storable.
@@ -89,15 +84,16 @@ pub fn walk(records: &[u8]) -> Walked
     let mut place = 0;
     let mut frames = 0;
     let mut storable = true;
-    let mut n = size_at(records, 0);
-    while n != 0 {
+    let mut found = at(records, 0);
+    while found.size != 0 {
+        let n = found.size;
         storable = storable_too(storable, n);
         place += n;
         frames += 1;
-        n = size_at(records, place);
+        found = at(records, place);
     }
     Walked {
-        number: fault_at(records, place),
+        number: found.number,
         frames,
         storable,
     }

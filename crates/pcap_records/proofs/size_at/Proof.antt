@@ -1,4 +1,4 @@
-use Rattle.pcap_records.proofs.Laws.{none-there, cut-none, unequal-none, whole-record}
+use Rattle.pcap_records.proofs.Walks.{size-here}
 use borrow.Author.Needs.{needs}
 use Rattle.pcap_records.proofs.size_at.Statement.{statement}
 use Rattle.pcap_records.proofs.size_at.Tie as tie
@@ -7,13 +7,5 @@ pub size-at-spec : {M : Type 1} → statement M
 size-at-spec =
     tie.close
     (tie.spec
-    (λ c. search none-there)
     (λ c κs. search needs)
-    (λ c. search cut-none)
-    (λ c κs. search needs)
-    (λ c. search unequal-none)
-    (λ c. search needs)
-    (λ c κs. search needs)
-    (λ c. search needs)
-    (λ c. search needs)
-    (λ c. search whole-record))
+    (λ c. search size-here))
