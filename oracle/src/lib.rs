@@ -4,12 +4,14 @@
 //! there is a choice, so that an error shared by both is unlikely.
 
 pub mod address;
+pub mod capture;
 pub mod check;
 pub mod compare;
 pub mod console;
 pub mod delivered;
 pub mod device;
 pub mod files;
+pub mod films;
 pub mod frames;
 pub mod groups;
 pub mod hash;

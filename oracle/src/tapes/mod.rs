@@ -19,7 +19,7 @@ pub use faults::{names as fault_names, Fault, FAULTS};
 pub use features::{features, FEATURES};
 pub use good::{good, long_frames, Shape, SHAPES};
 pub use kinds::{random, KINDS};
-pub use lending::Lent;
+pub use lending::{room, Lent};
 pub use lists::{List, DAMAGES};
 pub use pairs::all as pairs_of_faults;
 
