@@ -26,6 +26,7 @@ pub mod recording;
 pub mod runs;
 pub mod scripts;
 pub mod side;
+pub mod start;
 pub mod tables;
 pub mod taken;
 pub mod tally;

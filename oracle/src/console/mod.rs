@@ -9,6 +9,7 @@ mod tests;
 use crate::device::Bench;
 use crate::{check, hex};
 pub use call::Call;
+pub use parse::{decimal, hexadecimal};
 use std::ops::Range;
 
 /// The console's memory: the greatest window and eight bytes, to lend too much.

@@ -1,6 +1,8 @@
 //! A folder and what is in it, as far as the programs make and read files there: which file a name
 //! leads to, and where one can be made.
 
+pub mod folder;
+pub mod target;
 #[cfg(test)]
 mod tests;
 

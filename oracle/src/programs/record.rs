@@ -1,6 +1,6 @@
 //! `record TRACE MEMORY < SCRIPT`.
 
-use super::ROOM;
+use super::{Ended, ROOM};
 use crate::files::{Contents, Entry};
 use crate::numbers::WRITING_ROOM;
 use crate::recording;
@@ -19,19 +19,9 @@ pub struct Files {
     pub memory: Vec<u8>,
 }
 
-/// What the program writes, and what is in the folder behind it.
-pub struct Ended {
-    pub output: String,
-    pub after: Contents,
-}
-
 /// What the program does with its arguments and a script, in the order of its tests.
 pub fn run(arguments: &[String], script: &[u8], before: &Contents) -> Ended {
-    // "Whatever it says, no file is made or changed unless all goes well."
-    let ended = |output: String| Ended {
-        output,
-        after: before.clone(),
-    };
+    let ended = |output: String| Ended::unchanged(output, before);
     let [trace, memory] = arguments else {
         return ended(USAGE.to_string());
     };

@@ -31,26 +31,45 @@ pub fn run(arguments: &[String], folder: &Contents) -> String {
 
 /// The whole output for two files that can be read.
 pub fn output(trace: &[u8], memory: &[u8]) -> String {
+    match content(trace) {
+        Err(refused) => refused,
+        Ok(content) => played(&content, memory),
+    }
+}
+
+/// What is in a trace that is played, or what the program says to it.
+pub fn content(trace: &[u8]) -> Result<Content, String> {
     // "A trace that is longer than the program's room is refused by 23, whatever is in it."
     if trace.len() > ROOM {
-        return format!("refused {READING_ROOM}\n");
+        return Err(format!("refused {READING_ROOM}\n"));
     }
-    match trace::content(trace) {
-        Err(fault) => format!("refused {} {}\n", fault.reason, fault.block),
-        Ok(content) => played(&content, &memory[..memory.len().min(MEMORY_MOST)]),
+    trace::content(trace).map_err(|fault| format!("refused {} {}\n", fault.reason, fault.block))
+}
+
+/// Plays a trace with what is taken of the memory, and tells each event, its answer and the output.
+/// Gives the bench and the memory behind it.
+pub fn play(
+    content: &Content,
+    memory: &[u8],
+    mut tell: impl FnMut(&Event, Answer, &[u8]),
+) -> (Bench, Vec<u8>) {
+    let window = content.header;
+    let (mut bench, _) = Bench::new(window.base, window.length.into());
+    let mut memory = memory[..memory.len().min(MEMORY_MOST)].to_vec();
+    let mut output = vec![0; OUTPUT];
+    for event in trace::events(&content.events) {
+        let answer = event.call(&mut bench, &mut memory, &mut output);
+        tell(&event, answer, &output);
     }
+    (bench, memory)
 }
 
 fn played(content: &Content, memory: &[u8]) -> String {
     let window = content.header;
-    let (mut bench, _) = Bench::new(window.base, window.length.into());
-    let mut memory = memory.to_vec();
-    let mut output = vec![0; OUTPUT];
     let mut text = format!("window {:08x} {}\n", window.base, window.length);
-    for event in trace::events(&content.events) {
-        let answer = event.call(&mut bench, &mut memory, &mut output);
-        writeln!(text, "{}", line(&event, answer, &output)).expect("a string takes all");
-    }
+    let (bench, mut memory) = play(content, memory, |event, answer, output| {
+        writeln!(text, "{}", line(event, answer, output)).expect("a string takes all");
+    });
     let [receive, send] = [bench.receiver, bench.sender]
         .map(|engine| format!("{} {:08x}", u32::from(engine.running), engine.place));
     // "`check` is of the window's length, with zeros for what MEMORY lacks."

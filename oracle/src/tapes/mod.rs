@@ -10,9 +10,11 @@ mod good;
 mod kinds;
 mod lending;
 mod lists;
+mod memories;
 mod pairs;
 #[cfg(test)]
 mod tests;
+mod traffic;
 
 pub use cuts::{cut_events, cut_headers};
 pub use faults::{names as fault_names, Fault, FAULTS};
@@ -21,7 +23,9 @@ pub use good::{good, long_frames, Shape, SHAPES};
 pub use kinds::{random, KINDS};
 pub use lending::{room, Lent};
 pub use lists::{List, DAMAGES};
+pub use memories::{memory, MEMORIES};
 pub use pairs::all as pairs_of_faults;
+pub use traffic::traffic;
 
 use crate::trace::{block, starts, Event, Header};
 

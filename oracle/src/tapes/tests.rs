@@ -144,3 +144,27 @@ fn of_two_faults_the_first_is_told() {
         }
     }
 }
+
+#[test]
+fn on_days_of_traffic_frames_come_and_go() {
+    let mut random = Random::new(17);
+    let mut met = Vec::new();
+    for _ in 0..50 {
+        let tape = traffic(&mut random);
+        let content = trace::content(&tape.bytes).expect("a good trace has no bad block");
+        crate::programs::replay::play(&content, &tape.image, |event, answer, _| {
+            let kind = match event {
+                trace::Event::Frame { .. } => "frame",
+                trace::Event::Send => "send",
+                _ => return,
+            };
+            met.push((kind, answer.number));
+        });
+    }
+    for (kind, numbers) in [("frame", &[0, 4, 5, 6, 8][..]), ("send", &[0, 3, 8, 12])] {
+        for number in numbers {
+            let count = met.iter().filter(|one| **one == (kind, *number)).count();
+            assert!(count > 10, "{kind} {number}: {count}");
+        }
+    }
+}

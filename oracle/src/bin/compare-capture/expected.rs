@@ -83,11 +83,29 @@ pub fn kind_name(kind: &str) -> String {
 }
 
 pub fn export_slip_name(slip: ExportSlip) -> String {
-    format!("export would be another by: {slip:?}")
+    format!(
+        "export would be another by: {}",
+        words(&format!("{slip:?}"))
+    )
 }
 
 pub fn import_slip_name(slip: ImportSlip) -> String {
-    format!("import would be another by: {slip:?}")
+    format!(
+        "import would be another by: {}",
+        words(&format!("{slip:?}"))
+    )
+}
+
+/// A name like `RoomBeforeForm` in words.
+fn words(name: &str) -> String {
+    let mut words = String::new();
+    for letter in name.chars() {
+        if letter.is_uppercase() && !words.is_empty() {
+            words.push(' ');
+        }
+        words.push(letter.to_ascii_lowercase());
+    }
+    words
 }
 
 /// Counts each number that would be right behind the first, which is given.

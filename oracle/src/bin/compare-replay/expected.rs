@@ -1,11 +1,11 @@
 //! What a whole comparison must have met, and how often.
 
-use crate::replays::MEMORIES;
 use crate::scripts::KINDS;
 use crate::{large, lengths, limits, targets};
+use oracle::files::Contents;
 use oracle::taken::Taken;
 use oracle::tally::Tally;
-use oracle::tapes::FEATURES;
+use oracle::tapes::{FEATURES, MEMORIES};
 use oracle::ungranted::Ungranted;
 
 /// How often most kinds must be met in a whole comparison, and the few that are made by hand alone.
@@ -157,7 +157,7 @@ pub fn expect(tally: &mut Tally) {
     }
     for target in targets::all() {
         tally.expect(target_name(target.kind, false));
-        if target.can_be_old() {
+        if target.can_be_old(&Contents::new("/home")) {
             tally.expect(target_name(target.kind, true));
         }
     }

@@ -3,7 +3,6 @@
 
 mod compare;
 mod expected;
-mod folder;
 mod large;
 mod lengths;
 mod limits;
@@ -14,7 +13,7 @@ mod scripts;
 mod targets;
 
 use compare::Comparison;
-use folder::Folder;
+use oracle::files::folder::Folder;
 use oracle::runs::{self, Extent, Program};
 use oracle::tally::Tally;
 use std::path::PathBuf;
@@ -32,7 +31,7 @@ fn main() -> ExitCode {
     let mut comparison = Comparison {
         record,
         replay,
-        folder: Folder::new(),
+        folder: Folder::new("compare-replay"),
         tally: Tally::default(),
     };
     runs::compare(&mut comparison, extent)

@@ -7,24 +7,12 @@ use oracle::files::{Contents, Entry};
 use oracle::hex;
 use oracle::programs::replay::MEMORY_MOST;
 use oracle::random::Random;
-use oracle::tapes::{self, Tape};
+use oracle::tapes::{self, Tape, MEMORIES};
 use oracle::trace::{self, Event, Header};
 use oracle::ungranted::Ungranted;
 
 const TRACE: &str = "day.trace";
 const MEMORY: &str = "day.memory";
-
-/// How long the memory file is.
-pub const MEMORIES: [&str; 8] = [
-    "the window's",
-    "shorter by 1",
-    "shorter",
-    "longer by 1",
-    "longer",
-    "empty",
-    "as much as is taken",
-    "more than is taken",
-];
 
 /// The trace of a seed with a memory of its own.
 pub fn random(comparison: &mut Comparison, seed: u64) -> Result<(), String> {
@@ -34,23 +22,8 @@ pub fn random(comparison: &mut Comparison, seed: u64) -> Result<(), String> {
         0 => MEMORIES[0],
         _ => random.pick(&MEMORIES),
     };
-    let window = tape.image.len();
-    let length = match kind {
-        "shorter by 1" => window - 1,
-        "shorter" => random.below(window),
-        "longer by 1" => window + 1,
-        "longer" => window + random.between(2, 5_000),
-        "empty" => 0,
-        "as much as is taken" => MEMORY_MOST,
-        "more than is taken" => MEMORY_MOST + random.pick(&[1, 4, 1_000_000]),
-        _ => window,
-    };
-    let mut memory = tape.image.clone();
-    while memory.len() < length {
-        let piece = random.bytes(64);
-        memory.extend(piece);
-    }
-    memory.truncate(length);
+    let memory = tapes::memory(&tape, kind, random);
+    let length = memory.len();
     comparison.tally.met(expected::memory_name(kind));
     one(comparison, &tape.bytes, &memory).map_err(|difference| {
         let shown = hex::write(&tape.bytes[..tape.bytes.len().min(8_192)]);

@@ -1,7 +1,6 @@
 //! Targets for `record`: two names, and what is in the folder before.
 
-use oracle::files::{Contents, Entry};
-use oracle::random::Random;
+use oracle::files::target::{self, rows};
 
 /// Names that can be made into two files.
 const MADE: &str = "
@@ -160,16 +159,9 @@ const CLOSED: &str = "
     both in a closed folder             | closed/a      | closed/b        | closed!
 ";
 
-/// A row of these tables.
-#[derive(Clone, Copy)]
-pub struct Target {
-    pub kind: &'static str,
-    /// With `{home}` for the folder's own name, and for letters their number in braces.
-    names: [&'static str; 2],
-    /// What else is there: files, folders with a slash, links with an arrow, closed folders with an
-    /// exclamation mark; `*` is either name.
-    there: &'static str,
-}
+/// Two names: those of the trace and of the memory.
+pub type Target = target::Target<2>;
+pub type Place = target::Place<2>;
 
 pub fn made() -> Vec<Target> {
     rows(MADE)
@@ -183,90 +175,15 @@ pub fn closed() -> Vec<Target> {
     rows(CLOSED)
 }
 
-fn rows(table: &'static str) -> Vec<Target> {
-    let row = |line: &'static str| {
-        let cells: Vec<&str> = line.split('|').map(str::trim).collect();
-        let [kind, trace, memory, there] = cells[..] else {
-            panic!("a row has four cells: {line}");
-        };
-        let names = [trace, memory];
-        Target { kind, names, there }
-    };
-    table.trim().lines().map(row).collect()
-}
-
 /// Which of the two are there before, as files.
 pub const OLD: [[bool; 2]; 4] = [[false, false], [true, false], [false, true], [true, true]];
-
-/// The names given, and what is in the folder before.
-pub struct Place {
-    pub names: [String; 2],
-    pub before: Contents,
-}
-
-impl Target {
-    /// Whether one of the two can be there before.
-    pub fn can_be_old(&self) -> bool {
-        let place = |old| self.place(Contents::new("/home"), old, &mut Random::new(0));
-        OLD[1..].iter().any(|old| place(*old).is_some())
-    }
-
-    /// The target in an empty folder. Nothing if a file that should be there cannot be.
-    pub fn place(&self, empty: Contents, old: [bool; 2], random: &mut Random) -> Option<Place> {
-        let mut before = empty;
-        let names = self.names.map(|name| spelled(name, &before.home));
-        before.put("folder", Entry::Folder);
-        before.put("folder/below", Entry::Folder);
-        before.put("folder/inside", Entry::File(vec![1, 2, 3]));
-        before.put("other", Entry::File(vec![4, 5, 6]));
-        for there in self.there.split(", ").filter(|there| !there.is_empty()) {
-            for name in &names {
-                put(&mut before, &there.replace('*', name), random);
-            }
-        }
-        for (name, old) in names.iter().zip(old) {
-            if old {
-                let place = before.room_for(name)?;
-                if before.entries.contains_key(&place) {
-                    return None;
-                }
-                before.put(place, file(random));
-            }
-        }
-        Some(Place { names, before })
-    }
-}
-
-fn put(before: &mut Contents, there: &str, random: &mut Random) {
-    if let Some((name, to)) = there.split_once(" -> ") {
-        before.put(name, Entry::Link(to.to_string()));
-    } else if let Some(name) = there.strip_suffix('/') {
-        before.put(name, Entry::Folder);
-    } else if let Some(name) = there.strip_suffix('!') {
-        before.put(name, Entry::Closed);
-    } else {
-        before.put(there, file(random));
-    }
-}
-
-fn file(random: &mut Random) -> Entry {
-    let length = random.below(2_000);
-    Entry::File(random.bytes(length))
-}
-
-/// A name with what no table can hold.
-fn spelled(name: &str, home: &str) -> String {
-    let mut name = name.replace("{home}", home);
-    for length in [255, 256] {
-        name = name.replace(&format!("{{{length}}}"), &"n".repeat(length));
-    }
-    name
-}
 
 #[cfg(test)]
 mod tests {
     use super::*;
+    use oracle::files::Contents;
     use oracle::programs::record::{make, Files};
+    use oracle::random::Random;
 
     #[test]
     fn what_can_be_made_and_what_cannot() {

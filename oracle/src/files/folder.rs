@@ -1,6 +1,6 @@
 //! The folder that the programs work in, and what is in it.
 
-use oracle::files::{Contents, Entry};
+use super::{Contents, Entry};
 use std::fs::{self, DirBuilder};
 use std::os::unix::fs::{symlink, DirBuilderExt};
 use std::path::{Path, PathBuf};
@@ -14,8 +14,9 @@ pub struct Folder {
 }
 
 impl Folder {
-    pub fn new() -> Folder {
-        let name = format!("compare-replay-{}", std::process::id());
+    /// The folder of the program of this name, below the one for temporary files.
+    pub fn new(program: &str) -> Folder {
+        let name = format!("{program}-{}", std::process::id());
         // Without links, as the programs see it.
         let path = std::env::temp_dir()
             .canonicalize()
@@ -173,7 +174,7 @@ mod tests {
 
     #[test]
     fn what_is_put_there_is_there() {
-        let folder = Folder::new();
+        let folder = Folder::new("oracle-files");
         let mut contents = of(&[("a", &[1]), ("b/c", &[2, 3])]);
         contents.put("b", Entry::Folder);
         contents.put("closed", Entry::Closed);

@@ -1,0 +1,208 @@
+#!/usr/bin/env python3
+"""Tests that the worked file of docs/CAPTURE.md is a capture of its one frame, what `import_capture` makes of it, and what
+`export_capture` makes of a small day.
+
+The page's bytes are held against a file that is packed here. The trace that is made of it is taken apart by docs/TRACE.md, and the
+capture of the day, in which one frame is sent, two are delivered and one is lost, as tcpdump would read it.
+
+Usage: capture.py RECORD EXPORT IMPORT REPLAY   (the programs)
+"""
+import pathlib
+import re
+import struct
+import subprocess
+import sys
+import tempfile
+import zlib
+
+PAGE = pathlib.Path(__file__).resolve().parent.parent / 'docs' / 'CAPTURE.md'
+# to all stations, from 02-00-00-00-00-01, EtherType 88B5
+FRAME = bytes.fromhex('ffffffffffff' '020000000001' '88b5') + bytes(46)
+# magic, version 2.4, time zone, accuracy, snap length, link type
+HEADER = struct.pack('<IHHIIII', 0xa1b2c3d4, 2, 4, 0, 0, 65535, 1)
+
+# one frame for the day that is delivered, one that is lost, and one that is delivered behind it
+FIRST, LOST, SECOND = FRAME, FRAME[:14] + b'\x01' * 46, FRAME[:14] + b'\x02' * 1000
+SENT = bytes.fromhex('ffffffffffff' '020000000001' '0806')
+
+
+def closed(frame):
+    """A frame with its check sequence behind it."""
+    return frame + zlib.crc32(frame).to_bytes(4, 'little')
+
+
+# A window of 4,096 bytes. A receive descriptor at 04000000: room for 1,536 bytes at 04000100, linked to itself with polling. A
+# send descriptor at 04000800: the 14 bytes at 04000900, no next. The events have their numbers in front.
+SCRIPT = f"""new 04000000 4096
+poke 04000000 00460000000100040100000400000000
+poke 04000800 0e000000000900040000000000000100
+poke 04000900 {SENT.hex()}
+# 0
+write 1c 04000001
+# 1
+write 10 5
+# 2
+grant 04000000
+# 3
+frame {closed(FIRST).hex()}
+# 4
+write 3c 04000800
+# 5
+write 30 5
+# 6
+send 1518
+# 7
+frame {closed(LOST).hex()}
+# 8
+grant 04000000
+# 9
+frame {closed(SECOND).hex()}
+"""
+ANSWERS = ['write 0', 'write 0', 'grant 0', 'frame 0', 'write 0', 'write 0', f'send 0 {closed(SENT + bytes(46)).hex()}', 'frame 8',
+           'grant 0', 'frame 0']
+# the microseconds are the numbers of the events; what was sent is padded to 60
+RECORDS = [(0, 3, FIRST), (0, 6, SENT + bytes(46)), (0, 9, SECOND)]
+
+
+class Tests:
+    def __init__(self, folder, record, export, import_, replay):
+        self.folder = pathlib.Path(folder)
+        self.record, self.export, self.import_, self.replay = record, export, import_, replay
+        self.passed = self.failed = 0
+
+    def expect(self, title, got, wanted):
+        if got == wanted:
+            self.passed += 1
+        else:
+            self.failed += 1
+            print(f'FAILED: {title}: wanted {wanted!r}, got {got!r}')
+
+    def run(self, program, *words, stdin=''):
+        path = str(pathlib.Path(program).resolve())
+        done = subprocess.run([path, *words], cwd=self.folder, input=stdin, capture_output=True, text=True, timeout=60)
+        return done.stdout
+
+    def file(self, name):
+        path = self.folder / name
+        return path.read_bytes() if path.exists() else b''
+
+    def worked_file(self):
+        """The file of the page, and the trace that is made of it."""
+        packed = HEADER + struct.pack('<IIII', 0, 3, 60, 60) + FRAME
+        page, gaps = worked_file(len(packed))
+        self.expect('the page lists every byte once', gaps, [])
+        self.expect('the worked file of the page', page.hex(' '), packed.hex(' '))
+        (self.folder / 'worked.pcap').write_bytes(page)
+        said = self.run(self.import_, 'worked.pcap', 'worked.trace', '20000000', '4096')
+        self.expect('what import_capture says of the worked file', said, 'imported 1\ntime 0 3\n')
+        base, length, events = taken_apart(self.file('worked.trace'), self.expect)
+        self.expect('the window of the imported trace', (base, length), (0x20000000, 4096))
+        self.expect('the events of the imported trace', frames(events), [closed(FRAME)])
+        (self.folder / 'worked.memory').write_bytes(bytes(4096))
+        said = self.run(self.replay, 'worked.trace', 'worked.memory')
+        # nothing runs on a new bench, and no byte of the window is written
+        wanted = f'window 20000000 4096\nframe 3\nstate 0 00000000 0 00000000\ncheck {zlib.crc32(bytes(4096)):08x}\n'
+        self.expect('what replay says of the imported trace', said, wanted)
+
+    def small_day(self):
+        """A day recorded and replayed, its capture, and the trace that is made of that."""
+        said = self.run(self.record, 'day.trace', 'day.memory', stdin=SCRIPT)
+        self.expect('what record says of the day', said.split(' ')[:2], ['recorded', str(len(ANSWERS))])
+        said = self.run(self.replay, 'day.trace', 'day.memory')
+        self.expect('what replay says of the day', said.splitlines()[1:1 + len(ANSWERS)], ANSWERS)
+        said = self.run(self.export, 'day.trace', 'day.memory', 'day.pcap')
+        self.expect('what export_capture says of the day', said, f'exported {len(RECORDS)}\n')
+        pcap = self.file('day.pcap')
+        self.expect('the header of the capture', pcap[:24].hex(' '), HEADER.hex(' '))
+        self.expect('the records of the capture', records(pcap[24:]), RECORDS)
+        said = self.run(self.import_, 'day.pcap', 'again.trace', '0', '64')
+        times = ''.join(f'time {seconds} {microseconds}\n' for seconds, microseconds, _ in RECORDS)
+        self.expect('what import_capture says of the capture', said, f'imported {len(RECORDS)}\n{times}')
+        base, length, events = taken_apart(self.file('again.trace'), self.expect)
+        self.expect('the window of the trace made again', (base, length), (0, 64))
+        self.expect('the events of the trace made again', frames(events), [closed(frame) for _, _, frame in RECORDS])
+
+    def refusals(self):
+        """What is refused makes no file."""
+        (self.folder / 'cut.pcap').write_bytes(HEADER + struct.pack('<IIII', 0, 0, 61, 61) + FRAME)
+        (self.folder / 'old.trace').write_bytes(b'old')
+        said = self.run(self.import_, 'cut.pcap', 'old.trace', '0', '60')
+        self.expect('what import_capture says of a cut record', said, 'refused 35\n')
+        self.expect('the file that was there', self.file('old.trace'), b'old')
+        said = self.run(self.export, 'cut.pcap', 'worked.memory', 'old.trace')
+        self.expect('what export_capture says of no trace', said, 'refused 17 0\n')
+        self.expect('the file that was there still', self.file('old.trace'), b'old')
+
+
+def worked_file(length):
+    """The bytes that the page lists: an offset, then pairs of digits, `00 .. 00` for zeros up to the next offset; and where one is
+    missing or stands there twice."""
+    part = PAGE.read_text().split('## A worked file')
+    lines = re.findall(r'^ +(\d+)  ((?:[0-9a-f]{2} )+)(\.\.)?', part[1].split('## ')[0], re.M) if len(part) == 2 else []
+    data, gaps, end = bytearray(length), [], 0
+    for place, (offset, pairs, more) in enumerate(lines):
+        offset, pairs = int(offset), bytes.fromhex(pairs)
+        if offset != end:
+            gaps.append((end, offset))
+        data[offset:offset + len(pairs)] = pairs
+        following = int(lines[place + 1][0]) if place + 1 < len(lines) else length
+        end = following if more else offset + len(pairs)
+    return bytes(data), gaps + ([] if end == length else [(end, length)])
+
+
+def taken_apart(trace, expect):
+    """The base, the window's length and the bytes of the events of a trace, each block tested."""
+    data = b''
+    for place in range(0, max(len(trace), 1), 512):
+        block = trace[place:place + 512].ljust(512, b'\0')
+        number, used = struct.unpack_from('<HH', block)
+        check = sum(byte * (position + 1) for position, byte in enumerate(block[:508])) % 65521
+        last = place + 512 >= len(trace)
+        title = f'block {place // 512}'
+        expect(f'{title}: number, check and fill', (number, *struct.unpack('<I', block[508:]), block[4 + used:508].strip(b'\0')),
+               (place // 512, check, b''))
+        expect(f'{title}: used length', 1 <= used <= 504 if last else used == 504, True)
+        data += block[4:4 + used]
+    expect('the length of the trace', len(trace) % 512, 0)
+    base, less_one = struct.unpack_from('<IH', data.ljust(6, b'\0'))
+    return base, less_one + 1, data[6:]
+
+
+def frames(events):
+    """The frames of events that are frames alone."""
+    found = []
+    while events:
+        if events[0] != 3 or len(events) < 5:
+            return found + [('no frame event', events)]
+        length, = struct.unpack_from('<I', events, 1)
+        found.append(events[5:5 + length])
+        events = events[5 + length:]
+    return found
+
+
+def records(data):
+    """Seconds, microseconds and bytes of each record whose lengths are equal."""
+    found = []
+    while data:
+        seconds, microseconds, captured, original = struct.unpack_from('<IIII', data.ljust(16, b'\0'))
+        if captured != original or len(data) < 16 + captured:
+            return found + [('no record', data)]
+        found.append((seconds, microseconds, data[16:16 + captured]))
+        data = data[16 + captured:]
+    return found
+
+
+def main(programs):
+    with tempfile.TemporaryDirectory() as folder:
+        tests = Tests(folder, *programs)
+        tests.worked_file()
+        tests.small_day()
+        tests.refusals()
+        print(f'capture: {tests.passed} passed, {tests.failed} failed')
+        return 1 if tests.failed or not tests.passed else 0
+
+
+if __name__ == '__main__':
+    if len(sys.argv) != 5:
+        sys.exit(__doc__)
+    sys.exit(main(sys.argv[1:]))
