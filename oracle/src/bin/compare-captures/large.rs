@@ -5,16 +5,20 @@ use crate::{expected, exports, targets};
 use oracle::capture::{header, record, Time};
 use oracle::check;
 use oracle::files::Entry;
-use oracle::programs::{CAPTURE_ROOM, ROOM};
+use oracle::programs::{BLOCKS_MOST, CAPTURE_ROOM, ROOM};
 use oracle::trace::{block, Event, Header};
 
 /// Long days, and what is told to each.
-const DAYS: [(&str, &str); 8] = [
+const DAYS: [(&str, &str); 9] = [
     ("as long as there is room for", "exported 1371\n"),
     ("a byte too long", "refused 30\n"),
     ("far too long", "refused 30\n"),
     ("too long, no target", "refused 30\n"),
-    ("of more than two seconds", "exported 4\n"),
+    (
+        "of two seconds, its trace as long as there is room for",
+        "exported 4\n",
+    ),
+    ("trace longer by a send", "refused 23\n"),
     ("trace a byte too long", "refused 23\n"),
     ("trace far too long", "refused 23\n"),
     ("trace too long, no target", "refused 23\n"),
@@ -72,7 +76,8 @@ fn day(comparison: &mut Comparison, kind: &str, told: &str) -> Result<(), String
     let trace = match kind {
         "as long as there is room for" => trace(&long_day(1_370, 1_016)),
         "far too long" => trace(&long_day(2_000, 64)),
-        "of more than two seconds" => trace(&seconds()),
+        "of two seconds, its trace as long as there is room for" => trace(&seconds(0)),
+        "trace longer by a send" => trace(&seconds(1)),
         "trace a byte too long" => vec![0; ROOM + 1],
         "trace far too long" => trace(&long_day(10, 64)).repeat(10_000),
         "trace too long, no target" => vec![0; ROOM + 1],
@@ -142,8 +147,9 @@ fn long_day(sends: usize, frame: usize) -> Vec<Event> {
     events
 }
 
-/// Frames around the ends of the first and the second second; sends between that find nothing running.
-fn seconds() -> Vec<Event> {
+/// Frames around the ends of the first and the second second; sends between and behind that find
+/// nothing running, up to the end of the last block that there is room for, and some more.
+fn seconds(more: usize) -> Vec<Event> {
     let mut events = started();
     for (number, length) in [
         (999_999, 64),
@@ -154,6 +160,9 @@ fn seconds() -> Vec<Event> {
         events.resize(number, Event::Send);
         events.push(delivered(length));
     }
+    let most = BLOCKS_MOST * block::DATA_MOST - Header::SIZE;
+    let sends = most - Event::list(&events).len() + more;
+    events.extend(vec![Event::Send; sends]);
     events
 }
 
@@ -235,6 +244,8 @@ mod tests {
     #[test]
     fn the_files_are_as_long_as_they_say() {
         assert_eq!(many(8).len(), CAPTURE_ROOM);
+        assert_eq!(trace(&seconds(0)).len(), ROOM);
+        assert_eq!(trace(&seconds(1)).len(), ROOM + block::SIZE);
         let exported = export_capture::export(&trace(&long_day(1_370, 1_016)), &memory()).ok();
         let exported = exported.expect("it is exported");
         assert_eq!(
