@@ -12,13 +12,14 @@ export TMPDIR := $(shell tools/scratch)
 # Scripts leave no compiled files beside them.
 export PYTHONDONTWRITEBYTECODE = 1
 
-.PHONY: help day replay test programs library host trial oracle outside fuzz clean
+.PHONY: help day replay capture test programs library host trial oracle outside fuzz clean
 
 help:
 	@echo 'make day         a sample bench day: report on standard output, picture in target/day/day.svg'
 	@echo 'make replay      a sample day recorded and replayed: its answers are those of the console'
+	@echo 'make capture     the capture of that recorded day, for Wireshark: target/day/recorded-day.pcap'
 	@echo 'make test        prove every crate, try every must-fail edit, run all tests: the gate'
-	@echo 'make programs    prove and build target/bin/: bench, the console; record and replay; verdict'
+	@echo 'make programs    prove and build target/bin/: bench, the console; record, replay, export_capture, import_capture; verdict'
 	@echo 'make library     prove and build target/staticlib/libtockfeather.a, for include/tockfeather.h'
 	@echo 'make host        build the C bench host, target/host/host'
 	@echo 'make oracle      build the independent model below $(ORACLE)/'
@@ -42,12 +43,21 @@ replay:
 	@tools/progress rt check bench record replay
 	@tools/recorded-day examples/recorded-day.txt target/replay
 
+# The day is recorded anew: its trace, its memory image and its capture lie side by side.
+capture:
+	@echo 'Proving and building the programs; the first time this takes a few minutes.'
+	@tools/progress rt check record export_capture
+	@mkdir -p target/day
+	@target/bin/record target/day/recorded-day.trace target/day/recorded-day.memory < examples/recorded-day.txt
+	@target/bin/export_capture target/day/recorded-day.trace target/day/recorded-day.memory target/day/recorded-day.pcap
+	@echo 'The capture is target/day/recorded-day.pcap.'
+
 # The gate. Its last line is the prover's own verdict, `N passed, 0 failed`; any failure before or after it fails the run.
 test:
 	@tests/gate
 
 programs:
-	@tools/progress rt check bench verdict record replay
+	@tools/progress rt check bench verdict record replay export_capture import_capture
 
 library:
 	@tools/progress rt staticlib tockfeather
@@ -56,18 +66,19 @@ host: library
 	mkdir -p target/host
 	gcc $(WARNINGS) -Iinclude host/host.c target/staticlib/libtockfeather.a -o target/host/host
 
-# The trace functions for the independent model and the benchmark to call.
+# The functions on traces and captures for the independent model and the benchmark to call.
 trial:
 	@tools/progress rt staticlib trace_trial
+	@tools/progress rt staticlib pcap_trial
 
 oracle: library trial
-	cd oracle && cargo build --release --offline --quiet --features library,trace-library
+	cd oracle && cargo build --release --offline --quiet --features library,trace-library,capture-library
 
 # What is not proved is compared with programs that share no code with the model: two tests at a time, the longest first.
 outside: programs host oracle
 	@$(MAKE) --no-print-directory -j2 --output-sync=target $(OUTSIDE)
 
-OUTSIDE = outside-console outside-trace outside-replay outside-model outside-frames outside-histories outside-verdict outside-host outside-report outside-examples outside-block outside-day
+OUTSIDE = outside-console outside-trace outside-captures outside-replay outside-model outside-frames outside-histories outside-verdict outside-host outside-report outside-examples outside-capture outside-block outside-file outside-day
 .PHONY: $(OUTSIDE)
 
 outside-console:
@@ -81,6 +92,14 @@ outside-trace:
 outside-replay:
 	@echo '== the programs record and replay against the independent model'
 	$(ORACLE)/compare-replay target/bin/record target/bin/replay
+
+outside-capture:
+	@echo '== export and import of captures against the independent model'
+	$(ORACLE)/compare-capture
+
+outside-captures:
+	@echo '== the programs export_capture and import_capture against the independent model'
+	$(ORACLE)/compare-captures target/bin/export_capture target/bin/import_capture
 
 outside-model:
 	@echo '== the independent model by itself'
@@ -114,6 +133,10 @@ outside-block:
 	@echo '== the worked block of docs/TRACE.md'
 	python3 tests/trace.py target/bin/record target/bin/replay
 
+outside-file:
+	@echo '== the worked file of docs/CAPTURE.md, and the capture of a small day'
+	python3 tests/capture.py target/bin/record target/bin/export_capture target/bin/import_capture target/bin/replay
+
 outside-day:
 	@echo '== a sample day, recorded and replayed'
 	@tools/recorded-day examples/recorded-day.txt target/replay
@@ -122,6 +145,8 @@ fuzz: programs oracle
 	$(ORACLE)/fuzz target/bin/bench $(SECONDS_TO_RUN)
 	$(ORACLE)/compare-trace --seconds $(SECONDS_TO_RUN)
 	$(ORACLE)/compare-replay target/bin/record target/bin/replay --seconds $(SECONDS_TO_RUN)
+	$(ORACLE)/compare-capture --seconds $(SECONDS_TO_RUN)
+	$(ORACLE)/compare-captures target/bin/export_capture target/bin/import_capture --seconds $(SECONDS_TO_RUN)
 
 clean:
 	rm -rf target

@@ -67,9 +67,9 @@ searched (c ∷ cs) = by-one (judged (c .frame)) (searched cs)
 
 -- ---- the number
 
-pub exactly : Exactly
+pub export-exactly : Exactly
 unfolding exportNumber
-exactly list room =
+export-exactly list room =
     by-bool (ofItsForm list)
     (λ t. by-search t (searched (entriesOf list)))
     (λ t. inl (t, rw t))
@@ -82,9 +82,9 @@ exactly list room =
         (λ u. inr (inr (inl (t, a .0, ltb-true room (length (captureBytes (entriesOf list))) u, rw (t, z, u)))))
         (λ u. inr (inr (inr (t, a .0, ltb-false room (length (captureBytes (entriesOf list))) u, rw (t, z, u)))))
 
-pub changes-nothing : ChangesNothing
+pub export-changes-nothing : ChangesNothing
 unfolding export
-changes-nothing list room =
+export-changes-nothing list room =
     by-bool (eqb (exportNumber list (length room)) 0)
     (λ t. rw t (λ h. absurd (h refl)))
     (λ t. rw t (λ h. (refl, refl, refl)))

@@ -94,7 +94,7 @@ module _ (file : List ℕ) (events times : ℕ) where
   unfolding importNumber
   by-fault n e h = rw (e, ne-eqb n 0 h)
 
-  pub exactly-of : Says file events times
+  exactly-of : Says file events times
   exactly-of =
       by-bool (ltb (length file) 24)
       (λ t. inl (ltb-true (length file) 24 t, by-fault 31 (fault-cut t) (λ q. omega arith)))
@@ -112,12 +112,12 @@ module _ (file : List ℕ) (events times : ℕ) where
       (λ v. inr (inr (inl (long, m, eqb-false (word file 4) version v, by-fault 33 (fault-version t u v) (λ q. omega arith))))))
       (λ u. inr (inl (long, eqb-false (word file 0) magic u, by-fault 32 (fault-magic t u) (λ q. omega arith)))))
 
-pub exactly : Exactly
-exactly file events times = exactly-of file events times
+pub import-exactly : Exactly
+import-exactly file events times = exactly-of file events times
 
-pub changes-nothing : ChangesNothing
+pub import-changes-nothing : ChangesNothing
 unfolding import look
-changes-nothing file events times =
+import-changes-nothing file events times =
     by-bool (eqb (importNumber file (length events) (length times)) 0)
     (λ t. rw t (λ h. absurd (h refl)))
     (λ t. rw (t, t) (λ h. (refl, refl, refl, refl)))
