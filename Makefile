@@ -27,6 +27,7 @@ help:
 	@echo 'make fuzz        random scripts, traces and days with fresh seeds against the independent model; SECONDS_TO_RUN=60'
 	@echo 'make benchmark   checks and frames a second against a plain C model and an earlier commit (docs/PERFORMANCE.md)'
 	@echo 'make benchmark-traces   its part about traces alone: reading and writing against plain C, replay against direct calls'
+	@echo 'make benchmark-captures   its part about captures alone: export and import against plain C'
 	@echo 'make clean       remove target/'
 
 day:

@@ -3,7 +3,8 @@
  * and through single send, of the proved code, of the proved code of an earlier
  * commit and of the plain C model, side by side in one run; then frames a second
  * through bursts of 64 beside 64 single receives, both proved; then the reading
- * and writing of traces beside plain C, and replay beside direct calls.
+ * and writing of traces beside plain C, and replay beside direct calls; then the
+ * export and import of captures beside plain C.
  *
  * First all contestants get the same inputs, allowed and refused ones, and must
  * leave the same answers, memory and output: a model that does less would be no
@@ -17,6 +18,7 @@
 #include <string.h>
 
 #include "bursts.h"
+#include "captures.h"
 #include "model.h"
 #include "replays.h"
 #include "setting.h"
@@ -24,7 +26,7 @@
 
 /* A turn handles about so many bytes: some milliseconds. */
 #define BYTES_A_TURN 1000000
-#define TURNS 40
+#define CALL_TURNS 40
 
 static const struct contestant proved = {tockfeather_frame_check, speed_receive, speed_send};
 #ifdef WITH_BEFORE
@@ -227,7 +229,7 @@ struct row {
 static void measure(struct row *row)
 {
     make_frame(row->call == CHECK ? row->size + 4 : row->size, 1);
-    for (int t = 0; t < TURNS; t++) {
+    for (int t = 0; t < CALL_TURNS; t++) {
         for (size_t k = 0; k < CONTESTANTS; k++)
             keep_best(&row->best[k], turn(contestants[k].model, row->call, WINDOW, row->size));
         if (row->call != CHECK)
@@ -238,7 +240,7 @@ static void measure(struct row *row)
 static void print_rates(const struct row *rows)
 {
     printf("calls a second, best of %d turns; bytes: of the message for check, on the wire for the others\n"
-           "%-8s %6s", TURNS, "call", "bytes");
+           "%-8s %6s", CALL_TURNS, "call", "bytes");
     for (size_t k = 0; k < CONTESTANTS; k++)
         printf(" %10s", contestants[k].name);
     printf("\n");
@@ -303,6 +305,7 @@ int main(void)
     same = same_bursts() && same;
     same = same_traces() && same;
     same = same_replays() && same;
+    same = same_captures() && same;
     if (!same)
         return 1;
     printf("all leave the same answers, memory and output\n\n");
@@ -313,5 +316,6 @@ int main(void)
     measure_bursts();
     measure_traces();
     measure_replays();
+    measure_captures();
     return 0;
 }

@@ -11,6 +11,7 @@
 #include <string.h>
 
 #include "model.h"
+#include "words.h"
 
 #ifdef ZLIB
 #include <zlib.h>
@@ -73,19 +74,6 @@ struct enet {
     struct engine tx;
 };
 
-static uint32_t load(const uint8_t *at)
-{
-    return (uint32_t)at[0] | (uint32_t)at[1] << 8 | (uint32_t)at[2] << 16 | (uint32_t)at[3] << 24;
-}
-
-static void store(uint8_t *at, uint32_t word)
-{
-    at[0] = (uint8_t)word;
-    at[1] = (uint8_t)(word >> 8);
-    at[2] = (uint8_t)(word >> 16);
-    at[3] = (uint8_t)(word >> 24);
-}
-
 /* The check sequence of IEEE 802.3. */
 #if defined ZLIB
 static uint32_t check_sequence(const uint8_t *bytes, size_t length)
@@ -93,22 +81,7 @@ static uint32_t check_sequence(const uint8_t *bytes, size_t length)
     return (uint32_t)crc32(0, bytes, (uInt)length);
 }
 #elif defined HALF_BYTES
-/* The half byte i after four single-bit steps. */
-static const uint32_t half_bytes[16] = {
-    0x00000000, 0x1DB71064, 0x3B6E20C8, 0x26D930AC, 0x76DC4190, 0x6B6B51F4, 0x4DB26158, 0x5005713C,
-    0xEDB88320, 0xF00F9344, 0xD6D6A3E8, 0xCB61B38C, 0x9B64C2B0, 0x86D3D2D4, 0xA00AE278, 0xBDBDF21C,
-};
-
-static uint32_t check_sequence(const uint8_t *bytes, size_t length)
-{
-    uint32_t crc = UINT32_C(0xFFFFFFFF);
-
-    for (size_t i = 0; i < length; i++) {
-        crc ^= bytes[i];
-        crc = crc >> 8 ^ half_bytes[crc & 15] >> 4 ^ half_bytes[(crc >> 4 ^ crc << 2) & 15];
-    }
-    return ~crc;
-}
+#include "half_bytes.h"
 #else
 /* Of the usual forms of the inner loop this one is the fastest with gcc -O2. */
 static uint32_t check_sequence(const uint8_t *bytes, size_t length)

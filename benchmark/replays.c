@@ -9,7 +9,6 @@
 
 /* A day has about so many bytes of frames: some milliseconds. */
 #define BYTES_A_DAY 1000000
-#define TURNS 101
 #define GOAL 0.90
 
 static const size_t sizes[] = {64, 512, 1518};

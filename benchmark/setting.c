@@ -43,15 +43,20 @@ void make_frame(size_t length, uint8_t last)
 
 void make_frame_to(size_t length, const uint8_t destination[6])
 {
-    uint32_t crc = UINT32_C(0xFFFFFFFF);
-
     fill(frame, length, 3);
     memcpy(frame, destination, 6);
+    close_frame(frame, length);
+}
+
+void close_frame(uint8_t *bytes, size_t length)
+{
+    uint32_t crc = UINT32_C(0xFFFFFFFF);
+
     for (size_t bit = 0; bit < 8 * (length - 4); bit++) {
-        uint32_t leaves = (crc ^ frame[bit / 8] >> bit % 8) & 1;
+        uint32_t leaves = (crc ^ bytes[bit / 8] >> bit % 8) & 1;
         crc = crc >> 1 ^ (leaves ? UINT32_C(0xEDB88320) : 0);
     }
-    store(frame + length - 4, ~crc);
+    store(bytes + length - 4, ~crc);
 }
 
 double seconds(void)
@@ -79,4 +84,21 @@ double median(double *numbers, size_t count)
 {
     qsort(numbers, count, sizeof numbers[0], by_size);
     return numbers[count / 2];
+}
+
+double middle(const double *times)
+{
+    double sorted[TURNS];
+
+    memcpy(sorted, times, sizeof sorted);
+    return median(sorted, TURNS);
+}
+
+double middle_ratio(const double *times, const double *others)
+{
+    double ratios[TURNS];
+
+    for (size_t t = 0; t < TURNS; t++)
+        ratios[t] = times[t] / others[t];
+    return median(ratios, TURNS);
 }

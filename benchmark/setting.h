@@ -37,6 +37,9 @@ void prepare(uint32_t control, uint32_t start);
 void make_frame_to(size_t length, const uint8_t destination[6]);
 void make_frame(size_t length, uint8_t last);
 
+/* Makes the last four bytes of a frame the check sequence of those before. */
+void close_frame(uint8_t *bytes, size_t length);
+
 /* Processor time. */
 double seconds(void);
 
@@ -44,5 +47,12 @@ void keep_best(double *best, double now);
 
 /* The middle one of an odd number of them; sorts them. */
 double median(double *numbers, size_t count);
+
+/* Where a ratio is that of two times of one turn, the turns of all are one right
+ * behind the other, so many of each. Given are the median of the times, and that
+ * of one time over another's of the same turn. */
+#define TURNS 101
+double middle(const double *times);
+double middle_ratio(const double *times, const double *others);
 
 #endif

@@ -10,6 +10,7 @@
 #include <stdbool.h>
 #include <string.h>
 
+#include "found.h"
 #include "trace_model.h"
 
 enum answer {
@@ -54,12 +55,6 @@ static void store(uint8_t *at, uint32_t word)
 {
     store_half(at, word);
     store_half(at + 2, word >> 16);
-}
-
-static void put_found(uint64_t *found, size_t found_length, const uint64_t *numbers, size_t count)
-{
-    for (size_t i = 0; i < count && i < found_length; i++)
-        found[i] = numbers[i];
 }
 
 static bool window_allowed(uint32_t base, uint32_t window)

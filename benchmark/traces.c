@@ -207,7 +207,6 @@ bool same_traces(void)
 enum call { READ, WRITE };
 static const char *const calls[] = {"read", "write"};
 #define CALLS 2
-#define TURNS 101
 
 struct row {
     enum call call;
@@ -245,24 +244,6 @@ static void measure(struct row *row)
     }
 }
 
-static double middle(const double *times)
-{
-    double sorted[TURNS];
-
-    memcpy(sorted, times, sizeof sorted);
-    return median(sorted, TURNS);
-}
-
-/* The median of one time over another's of the same turn. */
-static double ratio(const double *times, const double *others)
-{
-    double ratios[TURNS];
-
-    for (size_t t = 0; t < TURNS; t++)
-        ratios[t] = times[t] / others[t];
-    return median(ratios, TURNS);
-}
-
 static void print_times(const struct row *rows)
 {
     printf("\ntraces: nanoseconds a block, medians of %d turns, and megabytes of trace a second of the proved code\n"
@@ -293,13 +274,13 @@ static void print_ratios(const struct row *rows)
         for (size_t i = 0; i < LENGTHS; i++) {
             printf("%-8s %-12s %6zu", calls[rows[r].call], kinds[rows[r].kind], lengths[i]);
             for (size_t k = 1; k < TRACERS; k++) {
-                double over = ratio(rows[r].times[i][k], rows[r].times[i][0]);
+                double over = middle_ratio(rows[r].times[i][k], rows[r].times[i][0]);
                 printf(" %10.3f", over);
                 if (lowest[k] == 0 || over < lowest[k])
                     lowest[k] = over;
             }
             if (i > 0) {
-                double longer = ratio(rows[r].times[i][0], rows[r].times[0][0]);
+                double longer = middle_ratio(rows[r].times[i][0], rows[r].times[0][0]);
                 printf(" %10.3f", longer);
                 if (longer > farthest)
                     farthest = longer;
