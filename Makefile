@@ -24,7 +24,7 @@ help:
 	@echo 'make host        build the C bench host, target/host/host'
 	@echo 'make oracle      build the independent model below $(ORACLE)/'
 	@echo 'make outside     the tests outside the prover alone, on what is built'
-	@echo 'make fuzz        random scripts, traces and days with fresh seeds against the independent model; SECONDS_TO_RUN=60'
+	@echo 'make fuzz        random scripts, traces, days and captures with fresh seeds against the independent model; SECONDS_TO_RUN=60'
 	@echo 'make benchmark   checks and frames a second against a plain C model and an earlier commit (docs/PERFORMANCE.md)'
 	@echo 'make benchmark-traces   its part about traces alone: reading and writing against plain C, replay against direct calls'
 	@echo 'make benchmark-captures   its part about captures alone: export and import against plain C'
@@ -44,13 +44,14 @@ replay:
 	@tools/progress rt check bench record replay
 	@tools/recorded-day examples/recorded-day.txt target/replay
 
-# The day is recorded anew: its trace, its memory image and its capture lie side by side.
+# The day is recorded anew: its trace, its memory image and its capture lie side by side. A program that fails says so in its first
+# line, and its exit status does not.
 capture:
 	@echo 'Proving and building the programs; the first time this takes a few minutes.'
 	@tools/progress rt check record export_capture
 	@mkdir -p target/day
-	@target/bin/record target/day/recorded-day.trace target/day/recorded-day.memory < examples/recorded-day.txt
-	@target/bin/export_capture target/day/recorded-day.trace target/day/recorded-day.memory target/day/recorded-day.pcap
+	@target/bin/record target/day/recorded-day.trace target/day/recorded-day.memory < examples/recorded-day.txt | grep '^recorded '
+	@target/bin/export_capture target/day/recorded-day.trace target/day/recorded-day.memory target/day/recorded-day.pcap | grep '^exported '
 	@echo 'The capture is target/day/recorded-day.pcap.'
 
 # The gate. Its last line is the prover's own verdict, `N passed, 0 failed`; any failure before or after it fails the run.

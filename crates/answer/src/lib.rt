@@ -106,7 +106,7 @@ pub const VERSION: u32 = 33;
 pub const LINK_TYPE: u32 = 34;
 
 // A record that is cut.
-pub const RECORD: u32 = 35;
+pub const RECORD_CUT: u32 = 35;
 
 // A record whose two lengths are unequal.
 pub const RECORD_LENGTHS: u32 = 36;

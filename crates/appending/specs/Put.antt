@@ -14,6 +14,7 @@ pub record Put : Type 0 where
 abbrev pub putOf : ℕ → List ℕ → Put
 putOf end l = record { end = end; list = l }
 
--- bytes behind the first of a list; 0, and the list as it was, where they have no room
+-- bytes behind the first `at` ones of a list; 0, and the list as it was, where they have no room. The end of no bytes at the front is
+-- 0 too
 unfoldable pub put : List ℕ → ℕ → List ℕ → Put
 put l at s = if ltb (length l) (at + length s) then putOf 0 l else putOf (at + length s) (store l at s)

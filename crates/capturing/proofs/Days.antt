@@ -18,7 +18,7 @@ use Rattle.calls.specs.Calls.{Bench}
 use Rattle.playback.specs.Playing.{Acting, benchOf, act, play}
 use Rattle.enet.specs.Device.{new}
 use Rattle.pcap.specs.Capture.{Captured}
-use Rattle.pcap_list.specs.Entries.{headBytes, entryBytes, listBytes}
+use Rattle.pcap_list.specs.Entries.{entryHead, entryBytes, listBytes}
 use Rattle.capturing.specs.Captured.{timed, ifDone, capturedOf, capturedFrom}
 use Rattle.capturing.specs.Capturing.{Listing, behindPut, keep, Capturing, keepOf, step, captureAll, begun}
 use Rattle.capturing.specs.Claims.{Captures, CapturesAll}
@@ -73,7 +73,7 @@ holding l s = record { bytes = length s; full = false; list = store l 0 s }
 
 -- an entry has bytes
 some-bytes : (c : Captured) → 0 < length (entryBytes c)
-unfolding entryBytes headBytes wordBytes
+unfolding entryBytes entryHead wordBytes
 some-bytes c = omega arith
 
 module _ (l s : List ℕ) (c : Captured) where

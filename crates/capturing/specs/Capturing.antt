@@ -70,7 +70,7 @@ unfoldable pub captureAll : Capturing → ℕ → List Event → Capturing
 captureAll c i [] = c
 captureAll c i (e ∷ es) = captureAll (step c i e) (suc i) es
 
--- the same as the code found it in a list of bytes, with its call's number and the bytes that it sent
+-- what `keepOf` keeps, of an event as the code found it in a list of bytes, with its call's number and the bytes that it sent
 abbrev pub keepFound : Listing → ℕ → List ℕ → Found → ℕ → List ℕ → Listing
 keepFound l i list (Frame start n) number sent = keep l number i (take n (drop start list))
 keepFound l i list Send number sent = keep l number i sent

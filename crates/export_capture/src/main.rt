@@ -78,12 +78,12 @@ fn save(room: &[u8; ROOM], n: usize) -> u32 {
 fn save_day(day: Day, list: &[u8; TRACE], room: &mut [u8; ROOM]) {
     let kept = day.kept;
     if kept.full {
-        messages::refused(answer::CAPTURE_ROOM, 0);
+        messages::refused(answer::CAPTURE_ROOM);
         return;
     }
     let exported = export(list, kept.bytes, room);
     if exported.number != answer::DONE {
-        messages::refused(exported.number, 0);
+        messages::refused(exported.number);
         return;
     }
     if save(room, exported.bytes) == 0 {
@@ -96,7 +96,7 @@ fn export_day(loaded: Loaded, trace: &mut [u8; TRACE], memory: &mut [u8; MEMORY]
     let mut room = [0u8; ROOM];
     let summary = read(loaded, trace, &mut room);
     if summary.number != answer::DONE {
-        messages::refused(summary.number, summary.block);
+        messages::refused_trace(summary.number, summary.block);
         return;
     }
     let day = capture(summary, &room, memory, loaded.memory, trace);

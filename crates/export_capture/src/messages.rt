@@ -8,8 +8,8 @@ fn write(line: &[u8; LINE], n: usize) {
     io::write_all(STDOUT_FILENO, memory::part(line, 0, n));
 }
 
-fn exported_line(line: &mut [u8; LINE], frames: usize) -> usize {
-    replies::numbered(line, 0, b"exported", frames as u64)
+fn numbered_line(line: &mut [u8; LINE], word: &[u8], n: u64) -> usize {
+    replies::numbered(line, 0, word, n)
 }
 
 fn refused_line(line: &mut [u8; LINE], number: u32, block: usize) -> usize {
@@ -18,12 +18,19 @@ fn refused_line(line: &mut [u8; LINE], number: u32, block: usize) -> usize {
 
 pub(crate) fn exported(frames: usize) {
     let mut line = [0u8; LINE];
-    let n = exported_line(&mut line, frames);
+    let n = numbered_line(&mut line, b"exported", frames as u64);
     write(&line, n);
 }
 
-// A refusal, with its block where the reason is a block's.
-pub(crate) fn refused(number: u32, block: usize) {
+// A refusal of the export.
+pub(crate) fn refused(number: u32) {
+    let mut line = [0u8; LINE];
+    let n = numbered_line(&mut line, b"refused", number as u64);
+    write(&line, n);
+}
+
+// A refusal of the trace, with its block where the reason is a block's.
+pub(crate) fn refused_trace(number: u32, block: usize) {
     let mut line = [0u8; LINE];
     let n = refused_line(&mut line, number, block);
     write(&line, n);

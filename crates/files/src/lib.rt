@@ -2,7 +2,8 @@
 // function is safe and ends, and what its contract says of its answer.
 mod reading;
 
-ghost use Prim.Native.Nat.{_≤_};
+ghost use Prim.Native.Nat.{_≤_, min};
+ghost use mathlib.Core.Path.{_≡_};
 ghost use lib.ListN.{length};
 ghost use Rattle.io.specs.Counts.{Counts};
 use arguments::WORD;
@@ -17,7 +18,7 @@ pub struct Got {
 
 // How many bytes of a buffer are taken, where at most n are: n, or all of them where that is less.
 pub fn within(n: usize, buffer: &[u8]) -> usize
-    ensures { λ r. ⌜ Counts r (now (buffer .entry)) ⌝ }
+    ensures { λ r. ⌜ (r ≡ min n (length (now (buffer .entry)))) × Counts r (now (buffer .entry)) ⌝ }
 {
     if n < buffer.len() { n } else { buffer.len() }
 }

@@ -92,7 +92,7 @@ fn head(seconds: u32, microseconds: u32, n: usize) -> [u8; 16]
     ]
 }
 
-// Puts the record of a frame into a room from a place on.
+// Puts the record of a frame into a room from a place on. Of a length that is longer than four bytes the lowest four are put.
 pub fn put_record(room: &mut [u8], at: usize, seconds: u32, microseconds: u32, frame: &[u8])
     ensures { λ _. ⌜ now (room .exit) ≡ store (now (room .entry)) at (recordBytes (record { seconds = seconds; microseconds = microseconds; frame = now (frame .entry) })) ⌝ }
 {

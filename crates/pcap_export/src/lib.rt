@@ -1,5 +1,5 @@
-// Frames with their times exported as a capture (02, Wish 7; docs/CAPTURE.md): first the number, then the file. An entry of the list and
-// its record have as many bytes, so each record lies a header's length behind where its entry lies in the list.
+// Frames with their times exported as a capture (02, Wish 7; docs/CAPTURE.md): first the number, then the file. The entry of a
+// frame that is right and its record have as many bytes, so each record lies a header's length behind where its entry lies in the list.
 ghost use Prim.Native.Nat.{_+_, _≤_};
 ghost use mathlib.Core.Path.{_≡_};
 ghost use lib.ListN.{length};

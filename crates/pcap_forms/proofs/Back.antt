@@ -27,11 +27,11 @@ use Rattle.pcap_forms.proofs.Entries.{entries-exportable}
 
 -- ---- the header
 
-pub header-right : (r : List ℕ) → headerFault (headerBytes ++ r) ≡ 0
+header-right : (r : List ℕ) → headerFault (headerBytes ++ r) ≡ 0
 unfolding headerFault headerBytes word wordBytes
 header-right r = rw (le-ltb (length (headerBytes ++ r)) 24 (omega arith))
 
-pub behind-header : (r : List ℕ) → drop 24 (headerBytes ++ r) ≡ r
+behind-header : (r : List ℕ) → drop 24 (headerBytes ++ r) ≡ r
 unfolding headerBytes wordBytes
 behind-header r = refl
 
@@ -57,7 +57,7 @@ module _ (file : List ℕ) (events times : List ℕ) (cs : List Captured) (heade
 
 -- ---- there and back
 
-pub captures-back : (cs : List Captured) → AllExportable cs → Back cs (captureBytes cs)
+captures-back : (cs : List Captured) → AllExportable cs → Back cs (captureBytes cs)
 unfolding captureBytes
 captures-back cs a =
     let d = behind-header (recordsBytes cs) in

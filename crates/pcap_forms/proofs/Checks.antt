@@ -9,21 +9,27 @@ use lib.ListN.{length, getD, take, drop}
 use borrow.Author.Tests.{ltb-true}
 use Rattle.rules.specs.Choice.{if_then_else_, _otherwise_}
 use Rattle.rules.proofs.Choices.{by-bool, passed, neither, or-parts, and-parts, said-yes}
+use Rattle.memory.specs.Memory.{word, wordBytes}
 use Rattle.fcs.specs.CheckSequence.{checkNumber, checkSequence}
 use Rattle.fcs.proofs.Meaning.{closed-message-right}
 use Rattle.block_forms.specs.Forms.{Bytes}
 use Rattle.trace_forms.specs.Events.{AllStorable}
-use Rattle.trace_forms.proofs.Bytewise.{bytes-drop, bytes-take}
+use Rattle.trace_forms.proofs.Bytewise.{digits, bytes-drop, bytes-take, word-small}
 use Rattle.trace_forms.proofs.Lists.{events-back}
 use Rattle.pieces.specs.Pieces.{piecesBy, pieces}
 use Rattle.pcap.specs.Capture.{Captured}
 use Rattle.pcap_records.specs.Records.{recordSize, recordsFault, withCheck, capturedOf, framesOf, storable, allStorable}
-use Rattle.pcap_import.specs.Import.{headerFault, importedFrames, frameEvent, eventsOf, timesOf, tooLittle, importNumber}
-use Rattle.pcap_forms.specs.Forms.{AllRight, ChecksRight, FrameEvents}
+use Rattle.pcap_import.specs.Import.{headerFault, importedFrames, frameEvent, eventsOf, timeBytes, timesOf, tooLittle, importNumber}
+use Rattle.pcap_forms.specs.Forms.{AllChecked, ChecksRight, Tells, TimesTold, FrameEvents}
+
+-- times that four bytes each can hold
+abbrev Timed : List Captured → Type 0
+Timed [] = Unit
+Timed (c ∷ cs) = ((c .seconds < 2 ^ 32) × (c .microseconds < 2 ^ 32)) × Timed cs
 
 -- ---- the check sequences
 
-all-right : (xs : List (List ℕ)) → AllRight (map capturedOf xs)
+all-right : (xs : List (List ℕ)) → AllChecked (map capturedOf xs)
 all-right [] = tt
 all-right (x ∷ xs) = (closed-message-right (drop 16 x), all-right xs)
 
@@ -63,7 +69,29 @@ frames-storable (suc n) s b =
       frames-storable n (drop (recordSize s) s) (bytes-drop (recordSize s) s b) (both .1),
     )))
 
--- what a file has that is imported
+-- ---- the times
+
+tells : (cs : List Captured) → Timed cs → Tells (timesOf cs) cs
+unfolding timesOf timeBytes word wordBytes
+tells [] t = refl
+tells (c ∷ cs) t = (digits (c .seconds) (t .0 .0), digits (c .microseconds) (t .0 .1), tells cs (t .1))
+
+timed-by : (n : ℕ) (s : List ℕ) → Bytes s → Timed (map capturedOf (piecesBy recordSize n s))
+unfolding piecesBy
+timed-by zero s b = tt
+timed-by (suc n) s b =
+    by-bool (eqb (recordSize s) 0) (λ t. rw t tt)
+    (λ t.
+    let x = take (recordSize s) s in
+    let bx = bytes-take (recordSize s) s b in
+    rw t ((word-small x bx 0, word-small x bx 4), timed-by n (drop (recordSize s) s) (bytes-drop (recordSize s) s b)))
+
+pub times-told : TimesTold
+unfolding framesOf
+times-told s b = tells (map capturedOf (pieces recordSize s)) (timed-by (length s) s b)
+
+-- ---- what a file has that is imported
+
 pub accepted : (file : List ℕ) (events times : ℕ) → importNumber file events times ≡ 0
     → (headerFault file ≡ 0) × ((recordsFault (drop 24 file) ≡ 0) × (allStorable (importedFrames file) ≡ true))
 unfolding importNumber tooLittle

@@ -17,7 +17,7 @@ use Rattle.trace_forms.proofs.Bytewise.{digits, bytes-drop, bytes-take, word-sm
 use Rattle.pieces.specs.Pieces.{piecesBy, pieces, sizes, joined}
 use Rattle.pieces.proofs.Joined.{Piece, AllPieces, apart, length-joined}
 use Rattle.pcap.specs.Capture.{Captured}
-use Rattle.pcap_list.specs.Entries.{headBytes, entryBytes, listBytes, entrySize, entryOf, entriesOf, ofItsForm}
+use Rattle.pcap_list.specs.Entries.{entryHead, entryBytes, listBytes, entrySize, entryOf, entriesOf, ofItsForm}
 use Rattle.pcap_list.proofs.Laws.{fits}
 use Rattle.pcap_export.specs.Export.{frameFault, firstWrong}
 use Rattle.pcap_forms.proofs.Records.{Exportable, AllExportable}
@@ -50,16 +50,16 @@ entries-exportable list b e = by-pieces (length list) list b e
 -- ---- a list that is made has its entries
 
 head-words : (a b c : ℕ) (r : List ℕ) → a < 2 ^ 32 → b < 2 ^ 32 → c < 2 ^ 32
-    → (word (headBytes a b c ++ r) 0 ≡ a) × ((word (headBytes a b c ++ r) 4 ≡ b) × (word (headBytes a b c ++ r) 8 ≡ c))
-unfolding headBytes word wordBytes
+    → (word (entryHead a b c ++ r) 0 ≡ a) × ((word (entryHead a b c ++ r) 4 ≡ b) × (word (entryHead a b c ++ r) 8 ≡ c))
+unfolding entryHead word wordBytes
 head-words a b c r ha hb hc = (digits a ha, (digits b hb, digits c hc))
 
-behind-head : (a b c : ℕ) (r : List ℕ) → drop 12 (headBytes a b c ++ r) ≡ r
-unfolding headBytes wordBytes
+behind-head : (a b c : ℕ) (r : List ℕ) → drop 12 (entryHead a b c ++ r) ≡ r
+unfolding entryHead wordBytes
 behind-head a b c r = refl
 
-length-head : (a b c : ℕ) → length (headBytes a b c) ≡ 12
-unfolding headBytes wordBytes
+length-head : (a b c : ℕ) → length (entryHead a b c) ≡ 12
+unfolding entryHead wordBytes
 length-head a b c = refl
 
 module _ (c : Captured) (e : Exportable c) where
@@ -71,14 +71,14 @@ module _ (c : Captured) (e : Exportable c) where
   long : length (entryBytes c) ≡ 12 + length (c .frame)
   unfolding entryBytes
   long =
-      length-append (headBytes (c .seconds) (c .microseconds) (length (c .frame))) (c .frame)
+      length-append (entryHead (c .seconds) (c .microseconds) (length (c .frame))) (c .frame)
       ∙ omega (arith, length-head (c .seconds) (c .microseconds) (length (c .frame)))
 
   said : (r : List ℕ) → word (entryBytes c ++ r) 8 ≡ length (c .frame)
   unfolding entryBytes
   said r =
       let k = length (c .frame) in
-      let h = headBytes (c .seconds) (c .microseconds) k in
+      let h = entryHead (c .seconds) (c .microseconds) k in
       rw (append-assoc h (c .frame) r) (head-words (c .seconds) (c .microseconds) k (c .frame ++ r) (e .seconds) (e .microseconds) small .1 .1)
 
   size-is : (r : List ℕ) → entrySize (entryBytes c ++ r) ≡ length (entryBytes c)

@@ -62,7 +62,7 @@ unchecked m =
     rw k (take-at m (checkSequence m) (length m) refl)
 
 -- bytes with equal lengths that say how many follow
-pub one-record : (x : List ℕ) → Bytes x → length x ≡ 16 + word x 8 → word x 8 ≡ word x 12 → x ≡ recordBytes (capturedOf x)
+one-record : (x : List ℕ) → Bytes x → length x ≡ 16 + word x 8 → word x 8 ≡ word x 12 → x ≡ recordBytes (capturedOf x)
 unfolding recordBytes
 one-record x b l e =
     let d = length-drop 16 x in
@@ -74,7 +74,7 @@ one-record x b l e =
     ∙ ap (λ (m : List ℕ). headBytes (word x 0) (word x 4) (length (message (withCheck (drop 16 x)))) (length (message (withCheck (drop 16 x)))) ++ m) (sym u)
 
 -- the record at the front of a string
-pub record Front (s : List ℕ) : Type 0 where
+record Front (s : List ℕ) : Type 0 where
   pub size : recordSize s ≡ 16 + word s 8
   pub equal : word s 8 ≡ word s 12
 
@@ -108,7 +108,7 @@ records-by (suc n) s b =
 
 -- ---- the header
 
-pub record Header (file : List ℕ) : Type 0 where
+record Header (file : List ℕ) : Type 0 where
   pub long : 24 ≤ length file
   pub isMagic : word file 0 ≡ magic
   pub isVersion : word file 4 ≡ version

@@ -130,7 +130,7 @@ pieces-of : (cs : List Captured) → AllExportable cs → AllPieces recordSize (
 pieces-of [] a = tt
 pieces-of (c ∷ cs) a = (record-piece c (a .0), pieces-of cs (a .1))
 
-pub made-pieces : (cs : List Captured) → AllExportable cs → pieces recordSize (recordsBytes cs) ≡ map recordBytes cs
+made-pieces : (cs : List Captured) → AllExportable cs → pieces recordSize (recordsBytes cs) ≡ map recordBytes cs
 made-pieces cs a = rw (← joins cs) (apart recordSize fits (map recordBytes cs) (pieces-of cs a))
 
 pub made-frames : (cs : List Captured) → AllExportable cs → framesOf (recordsBytes cs) ≡ cs

@@ -4,7 +4,7 @@ use Prim.Native.Nat.{ℕ, _≤_}
 use mathlib.Core.Path.{_≡_}
 use mathlib.Core.Bool.{true}
 use mathlib.Core.List.{List, [], _∷_, map}
-use lib.ListN.{length, take}
+use lib.ListN.{length, take, drop}
 use Rattle.memory.specs.Memory.{word, store}
 use Rattle.fcs.specs.CheckSequence.{checkRight}
 use Rattle.block_forms.specs.Forms.{Bytes}
@@ -77,13 +77,22 @@ OneForm =
 
 -- ---- what import adds and gives
 
-abbrev pub AllRight : List Captured → Type 0
-AllRight [] = Unit
-AllRight (c ∷ cs) = (checkRight (c .frame) ≡ true) × AllRight cs
+abbrev pub AllChecked : List Captured → Type 0
+AllChecked [] = Unit
+AllChecked (c ∷ cs) = (checkRight (c .frame) ≡ true) × AllChecked cs
 
 -- the check sequence of each frame is right, whatever the file
 abbrev pub ChecksRight : Type 0
-ChecksRight = (s : List ℕ) → AllRight (framesOf s)
+ChecksRight = (s : List ℕ) → AllChecked (framesOf s)
+
+-- bytes that tell the times of frames: seconds and microseconds of each, and nothing behind the last
+abbrev pub Tells : List ℕ → List Captured → Type 0
+Tells s [] = s ≡ []
+Tells s (c ∷ cs) = (word s 0 ≡ c .seconds) × (word s 4 ≡ c .microseconds) × Tells (drop 8 s) cs
+
+-- those that import gives tell the times of the frames
+abbrev pub TimesTold : Type 0
+TimesTold = (s : List ℕ) → Bytes s → Tells (timesOf (framesOf s)) (framesOf s)
 
 -- the events are frame events and nothing else
 abbrev pub FrameEvents : Type 0

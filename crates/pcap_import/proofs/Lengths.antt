@@ -16,7 +16,7 @@ use Rattle.pcap_records.proofs.Laws.{fits, least}
 use Rattle.pcap_records.proofs.Walks.{length-frame}
 use Rattle.pcap_import.specs.Import.{frameEvent, eventsOf, timeBytes, timesOf}
 
-pub length-event : (c : Captured) → length (bytesOf (frameEvent c)) ≡ 5 + length (c .frame)
+length-event : (c : Captured) → length (bytesOf (frameEvent c)) ≡ 5 + length (c .frame)
 unfolding bytesOf wordBytes
 length-event c = omega arith
 

@@ -18,7 +18,7 @@ use Rattle.pieces.specs.Pieces.{pieces, sizes}
 use Rattle.pieces.proofs.Turns.{Fits, turn, stop, lies, has}
 use Rattle.pcap.specs.Capture.{Captured}
 use Rattle.pcap_list.specs.declared.Listed.{Listed}
-use Rattle.pcap_list.specs.Entries.{headBytes, entryBytes, entrySize, entryOf, entriesOf, ofItsForm, listed}
+use Rattle.pcap_list.specs.Entries.{entryHead, entryBytes, entrySize, entryOf, entriesOf, ofItsForm, listed}
 
 -- ---- the size of an entry
 
@@ -111,7 +111,7 @@ module _ (s : List ℕ) where
 
 -- ---- an entry put
 
-pub entry-put : (l : List ℕ) (at : ℕ) (x : Put) (h : List ℕ) (seconds microseconds : ℕ) (frame : List ℕ) → h ≡ headBytes seconds microseconds (length frame)
+pub entry-put : (l : List ℕ) (at : ℕ) (x : Put) (h : List ℕ) (seconds microseconds : ℕ) (frame : List ℕ) → h ≡ entryHead seconds microseconds (length frame)
     → x ≡ put l at (h ++ frame) → x ≡ put l at (entryBytes (record { seconds = seconds; microseconds = microseconds; frame = frame }))
 unfolding entryBytes
 entry-put l at x h seconds microseconds frame e p = p ∙ rw e

@@ -13,12 +13,12 @@ use Rattle.pcap_list.specs.declared.Listed.{Listed}
 -- ---- made
 
 -- seconds, microseconds, the length of the frame
-unfoldable pub headBytes : ℕ → ℕ → ℕ → List ℕ
-headBytes seconds microseconds n = wordBytes seconds ++ (wordBytes microseconds ++ wordBytes n)
+unfoldable pub entryHead : ℕ → ℕ → ℕ → List ℕ
+entryHead seconds microseconds n = wordBytes seconds ++ (wordBytes microseconds ++ wordBytes n)
 
 -- and the frame, from destination address to check sequence
 unfoldable pub entryBytes : Captured → List ℕ
-entryBytes c = headBytes (c .seconds) (c .microseconds) (length (c .frame)) ++ c .frame
+entryBytes c = entryHead (c .seconds) (c .microseconds) (length (c .frame)) ++ c .frame
 
 unfoldable pub listBytes : List Captured → List ℕ
 listBytes [] = []

@@ -28,7 +28,7 @@ recordSize s =
     if unequalLengths s then 0 else
     16 + word s 8
 
--- why there is no record more: 35, 36, or 0 where no byte is left
+-- what is wrong with it: 35, 36, or 0 where nothing is wrong or no byte is left
 unfoldable pub recordFault : List ℕ → ℕ
 recordFault s =
     if eqb (length s) 0 then 0 else

@@ -13,7 +13,7 @@ pub struct Walked {
     pub storable: bool,
 }
 
-// So many bytes has a record whose frame has no length of 32 bits with its check sequence, or more.
+// A record of so many bytes or more: with its check sequence its frame has no length of 32 bits.
 const LONG: usize = 4_294_967_308;
 
 // What stands at a place: the bytes of a record that is whole and has equal lengths, or 0 and why there is none; both are 0 where no byte
@@ -37,14 +37,14 @@ fn at(records: &[u8], place: usize) -> Found
     if left < pcap::HEAD {
         return Found {
             size: 0,
-            number: answer::RECORD,
+            number: answer::RECORD_CUT,
         };
     }
     let n = memory::word(records, place + 8);
     if left - pcap::HEAD < n as usize {
         return Found {
             size: 0,
-            number: answer::RECORD,
+            number: answer::RECORD_CUT,
         };
     }
     if n != memory::word(records, place + 12) {

@@ -1,5 +1,5 @@
 -- Export is refused exactly in the situations named, and a refusal changes nothing. Assumes nothing.
-use Prim.Native.Nat.{ℕ, _≤_, _<_}
+use Prim.Native.Nat.{ℕ, _+_, _≤_, _<_}
 use mathlib.Core.Path.{_≡_, refl, sym, ap, _∙_}
 use mathlib.Core.Bool.{Bool, true, false, not}
 use mathlib.Core.Logic.{_⊎_, inl, inr}
@@ -14,6 +14,7 @@ use Rattle.fcs.specs.CheckSequence.{checkRight}
 use Rattle.frame.specs.Length.{lengthAllowed}
 use Rattle.pcap.specs.Capture.{Captured, captureBytes}
 use Rattle.pcap_list.specs.Entries.{entriesOf, ofItsForm}
+use Rattle.pcap_export.proofs.Lengths.{length-capture}
 use Rattle.pcap_export.specs.Export.{frameFault, firstWrong, exportNumber, export}
 use Rattle.pcap_refusals.specs.Export.{Right, AllRight, Wrong, FirstWrong, Says, Exactly, ChangesNothing}
 
@@ -78,9 +79,10 @@ export-exactly list room =
     by-search t (inr a) = inr (inl (t, rw (t, ne-eqb (firstWrong (entriesOf list)) 0 (a .1)) (a .0)))
     by-search t (inl a) =
         let z = eq-eqb (firstWrong (entriesOf list)) 0 (a .1) in
+        let k = length-capture list t (a .1) in
         by-bool (ltb room (length (captureBytes (entriesOf list))))
-        (λ u. inr (inr (inl (t, a .0, ltb-true room (length (captureBytes (entriesOf list))) u, rw (t, z, u)))))
-        (λ u. inr (inr (inr (t, a .0, ltb-false room (length (captureBytes (entriesOf list))) u, rw (t, z, u)))))
+        (λ u. inr (inr (inl (t, a .0, (let l = ltb-true room (length (captureBytes (entriesOf list))) u in omega arith), rw (t, z, u)))))
+        (λ u. inr (inr (inr (t, a .0, (let l = ltb-false room (length (captureBytes (entriesOf list))) u in omega arith), rw (t, z, u)))))
 
 pub export-changes-nothing : ChangesNothing
 unfolding export
