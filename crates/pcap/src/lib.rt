@@ -68,11 +68,17 @@ fn message(frame: &[u8]) -> &[u8]
     memory::part(frame, 0, frame.len() - 4)
 }
 
-// The bytes of a record before a frame that has so many without its check sequence.
-fn head(seconds: u32, microseconds: u32, n: usize) -> [u8; 16]
-    ensures { λ r. ⌜ r ≡ headBytes seconds microseconds n n ⌝ }
+// The bytes before a frame.
+pub struct RecordHead {
+    pub bytes: [u8; 16],
+}
+
+// Those of a record of n bytes: its time, and n as the captured length and as the original one. Of a number that is longer than four
+// bytes the lowest four count.
+pub fn head(seconds: usize, microseconds: usize, n: usize) -> RecordHead
+    ensures { λ r. ⌜ r .bytes ≡ headBytes seconds microseconds n n ⌝ }
 {
-    [
+    let bytes = [
         (seconds % 256) as u8,
         (seconds / 256 % 256) as u8,
         (seconds / 256 / 256 % 256) as u8,
@@ -89,7 +95,8 @@ fn head(seconds: u32, microseconds: u32, n: usize) -> [u8; 16]
         (n / 256 % 256) as u8,
         (n / 256 / 256 % 256) as u8,
         (n / 256 / 256 / 256 % 256) as u8,
-    ]
+    ];
+    RecordHead { bytes }
 }
 
 // Puts the record of a frame into a room from a place on. Of a length that is longer than four bytes the lowest four are put.
@@ -100,6 +107,8 @@ pub fn put_record(room: &mut [u8], at: usize, seconds: u32, microseconds: u32, f
         return;
     }
     let message = message(frame);
-    memory::store(room, at, &head(seconds, microseconds, message.len()));
+    let head = head(seconds as usize, microseconds as usize, message.len());
+    let bytes = head.bytes;
+    memory::store(room, at, &bytes);
     memory::store(room, at + HEAD, message);
 }

@@ -11,12 +11,12 @@ use lib.Seq.{getD-drop}
 use borrow.Author.Tests.{lt-ltb, le-ltb, ltb-false, eqb-false}
 use Rattle.rules.specs.Choice.{if_then_else_}
 use Rattle.rules.proofs.Choices.{by-bool, by-test}
-use Rattle.memory.specs.Memory.{word}
+use Rattle.memory.specs.Memory.{word, wordBytes}
 use Rattle.memory.proofs.Parts.{word-from}
 use Rattle.appending.specs.Put.{Put, put}
 use Rattle.pieces.specs.Pieces.{pieces, sizes}
 use Rattle.pieces.proofs.Turns.{Fits, turn, stop, lies, has}
-use Rattle.pcap.specs.Capture.{Captured}
+use Rattle.pcap.specs.Capture.{Captured, headBytes}
 use Rattle.pcap_list.specs.declared.Listed.{Listed}
 use Rattle.pcap_list.specs.Entries.{entryHead, entryBytes, entrySize, entryOf, entriesOf, ofItsForm, listed}
 
@@ -111,7 +111,9 @@ module _ (s : List ℕ) where
 
 -- ---- an entry put
 
-pub entry-put : (l : List ℕ) (at : ℕ) (x : Put) (h : List ℕ) (seconds microseconds : ℕ) (frame : List ℕ) → h ≡ entryHead seconds microseconds (length frame)
-    → x ≡ put l at (h ++ frame) → x ≡ put l at (entryBytes (record { seconds = seconds; microseconds = microseconds; frame = frame }))
-unfolding entryBytes
-entry-put l at x h seconds microseconds frame e p = p ∙ rw e
+-- its head is the front of a record's
+pub entry-put : (l : List ℕ) (at : ℕ) (x : Put) (h p : List ℕ) (seconds microseconds : ℕ) (frame : List ℕ)
+    → h ≡ headBytes seconds microseconds (length frame) (length frame) → p ≡ take 12 (drop 0 h) → x ≡ put l at (p ++ frame)
+    → x ≡ put l at (entryBytes (record { seconds = seconds; microseconds = microseconds; frame = frame }))
+unfolding entryBytes entryHead headBytes wordBytes
+entry-put l at x h p seconds microseconds frame eh ep q = q ∙ rw (ep, eh)

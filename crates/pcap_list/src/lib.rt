@@ -3,9 +3,9 @@
 ghost use mathlib.Core.Path.{_≡_};
 ghost use lib.ListN.{drop};
 ghost use Rattle.appending.specs.Put.{putOf, put};
-ghost use Rattle.pcap_list.specs.Entries.{entryHead, entryBytes, entrySize, listed};
+ghost use Rattle.pcap_list.specs.Entries.{entryBytes, entrySize, listed};
 
-// The bytes of an entry before its frame.
+// The bytes of an entry before its frame: the first of those that a record has.
 pub const HEAD: usize = 12;
 
 // Whether a list is of its form, and how many whole entries it has.
@@ -50,31 +50,12 @@ pub fn walk(list: &[u8]) -> Listed
     }
 }
 
-// The bytes of an entry before a frame of so many.
-fn head(seconds: usize, microseconds: usize, n: usize) -> [u8; 12]
-    ensures { λ r. ⌜ r ≡ entryHead seconds microseconds n ⌝ }
-{
-    [
-        (seconds % 256) as u8,
-        (seconds / 256 % 256) as u8,
-        (seconds / 256 / 256 % 256) as u8,
-        (seconds / 256 / 256 / 256 % 256) as u8,
-        (microseconds % 256) as u8,
-        (microseconds / 256 % 256) as u8,
-        (microseconds / 256 / 256 % 256) as u8,
-        (microseconds / 256 / 256 / 256 % 256) as u8,
-        (n % 256) as u8,
-        (n / 256 % 256) as u8,
-        (n / 256 / 256 % 256) as u8,
-        (n / 256 / 256 / 256 % 256) as u8,
-    ]
-}
-
 // Puts a frame with its time behind the first `at` bytes of a list, and answers where its entry ends; 0, and the list as it was, where
 // it has no room. Of a time or a length that is longer than four bytes the lowest four are put.
 pub fn put(list: &mut [u8], at: usize, seconds: usize, microseconds: usize, frame: &[u8]) -> usize
     ensures { λ r. ⌜ putOf r (now (list .exit)) ≡ put (now (list .entry)) at (entryBytes (record { seconds = seconds; microseconds = microseconds; frame = now (frame .entry) })) ⌝ }
 {
-    let head = head(seconds, microseconds, frame.len());
-    appending::put(list, at, &head, frame)
+    let head = pcap::head(seconds, microseconds, frame.len());
+    let bytes = head.bytes;
+    appending::put(list, at, memory::part(&bytes, 0, HEAD), frame)
 }
