@@ -1,9 +1,10 @@
 #!/usr/bin/env python3
-"""Tests that the worked file of docs/CAPTURE.md is a capture of its one frame, what `import_capture` makes of it, and what
-`export_capture` makes of a small day.
+"""Tests that the worked file of docs/CAPTURE.md is a capture of its one frame, what `import_capture` makes of it, what
+`export_capture` makes of a small day, and that the capture of examples/recorded-day.txt is what the page shows of it.
 
 The page's bytes are held against a file that is packed here. The trace that is made of it is taken apart by docs/TRACE.md, and the
-capture of the day, in which one frame is sent, two are delivered and one is lost, as tcpdump would read it.
+capture of the day, in which one frame is sent, two are delivered and one is lost, as tcpdump would read it. Each program has to
+end with status 0 and to leave the files that were there and the one that it makes, and no other.
 
 Usage: capture.py RECORD EXPORT IMPORT REPLAY   (the programs)
 """
@@ -15,7 +16,8 @@ import sys
 import tempfile
 import zlib
 
-PAGE = pathlib.Path(__file__).resolve().parent.parent / 'docs' / 'CAPTURE.md'
+ROOT = pathlib.Path(__file__).resolve().parent.parent
+PAGE = (ROOT / 'docs' / 'CAPTURE.md').read_text()
 # to all stations, from 02-00-00-00-00-01, EtherType 88B5
 FRAME = bytes.fromhex('ffffffffffff' '020000000001' '88b5') + bytes(46)
 # magic, version 2.4, time zone, accuracy, snap length, link type
@@ -77,14 +79,24 @@ class Tests:
             self.failed += 1
             print(f'FAILED: {title}: wanted {wanted!r}, got {got!r}')
 
-    def run(self, program, *words, stdin=''):
-        path = str(pathlib.Path(program).resolve())
+    def run(self, program, *words, stdin='', makes=()):
+        """What a program says; of the folder it may change the files that it makes, and nothing else."""
+        path = pathlib.Path(program).resolve()
+        before = self.files()
         done = subprocess.run([path, *words], cwd=self.folder, input=stdin, capture_output=True, text=True, timeout=60)
+        title = ' '.join([path.name, *words])
+        self.expect(f'{title}: its status and errors', (done.returncode, done.stderr), (0, ''))
+        after = self.files()
+        self.expect(f'{title}: the files that are there', sorted(after), sorted({*before, *makes}))
+        self.expect(f'{title}: the files that it changes', sorted(name for name in before if before[name] != after.get(name)),
+                    sorted(name for name in makes if name in before))
         return done.stdout
 
+    def files(self):
+        return {path.name: path.read_bytes() for path in self.folder.iterdir()}
+
     def file(self, name):
-        path = self.folder / name
-        return path.read_bytes() if path.exists() else b''
+        return self.files().get(name, b'')
 
     def worked_file(self):
         """The file of the page, and the trace that is made of it."""
@@ -93,11 +105,15 @@ class Tests:
         self.expect('the page lists every byte once', gaps, [])
         self.expect('the worked file of the page', page.hex(' '), packed.hex(' '))
         (self.folder / 'worked.pcap').write_bytes(page)
-        said = self.run(self.import_, 'worked.pcap', 'worked.trace', '20000000', '4096')
+        said = self.run(self.import_, 'worked.pcap', 'worked.trace', '20000000', '4096', makes=['worked.trace'])
         self.expect('what import_capture says of the worked file', said, 'imported 1\ntime 0 3\n')
         base, length, events = taken_apart(self.file('worked.trace'), self.expect)
         self.expect('the window of the imported trace', (base, length), (0x20000000, 4096))
         self.expect('the events of the imported trace', frames(events), [closed(FRAME)])
+        check = on_page('A worked file', r' is ((?:[0-9A-F]{2} ?){4})')
+        self.expect('the check sequence of the page', check, closed(FRAME)[-4:].hex(' ').upper())
+        front, length = on_page('A worked file', r'03, ((?:[0-9A-F]{2} ){4})for (\d+) bytes') or ('', '0')
+        self.expect('the front of the event of the page', (b'\x03' + bytes.fromhex(front), int(length)), (events[:5], 64))
         (self.folder / 'worked.memory').write_bytes(bytes(4096))
         said = self.run(self.replay, 'worked.trace', 'worked.memory')
         # nothing runs on a new bench, and no byte of the window is written
@@ -106,39 +122,82 @@ class Tests:
 
     def small_day(self):
         """A day recorded and replayed, its capture, and the trace that is made of that."""
-        said = self.run(self.record, 'day.trace', 'day.memory', stdin=SCRIPT)
+        said = self.run(self.record, 'day.trace', 'day.memory', stdin=SCRIPT, makes=['day.trace', 'day.memory'])
         self.expect('what record says of the day', said.split(' ')[:2], ['recorded', str(len(ANSWERS))])
         said = self.run(self.replay, 'day.trace', 'day.memory')
         self.expect('what replay says of the day', said.splitlines()[1:1 + len(ANSWERS)], ANSWERS)
-        said = self.run(self.export, 'day.trace', 'day.memory', 'day.pcap')
+        said = self.run(self.export, 'day.trace', 'day.memory', 'day.pcap', makes=['day.pcap'])
         self.expect('what export_capture says of the day', said, f'exported {len(RECORDS)}\n')
         pcap = self.file('day.pcap')
         self.expect('the header of the capture', pcap[:24].hex(' '), HEADER.hex(' '))
         self.expect('the records of the capture', records(pcap[24:]), RECORDS)
-        said = self.run(self.import_, 'day.pcap', 'again.trace', '0', '64')
+        said = self.run(self.import_, 'day.pcap', 'again.trace', '0', '64', makes=['again.trace'])
         times = ''.join(f'time {seconds} {microseconds}\n' for seconds, microseconds, _ in RECORDS)
         self.expect('what import_capture says of the capture', said, f'imported {len(RECORDS)}\n{times}')
         base, length, events = taken_apart(self.file('again.trace'), self.expect)
         self.expect('the window of the trace made again', (base, length), (0, 64))
         self.expect('the events of the trace made again', frames(events), [closed(frame) for _, _, frame in RECORDS])
 
+    def recorded_day(self):
+        """The capture of the example, and what the page shows of it."""
+        part = 'With other programs'
+        script = (ROOT / 'examples' / 'recorded-day.txt').read_text()
+        self.run(self.record, 'recorded.trace', 'recorded.memory', stdin=script, makes=['recorded.trace', 'recorded.memory'])
+        said = self.run(self.export, 'recorded.trace', 'recorded.memory', 'recorded.pcap', makes=['recorded.pcap'])
+        pcap = self.file('recorded.pcap')
+        found = records(pcap[24:])
+        times = [1_000_000 * seconds + microseconds for seconds, microseconds, _ in found]
+        count = len(found)
+        self.expect('what export_capture says of the recorded day', said, f'exported {count}\n')
+        words = ['no', 'one', 'two', 'three', 'four', 'five', 'six', 'seven', 'eight', 'nine']
+        self.expect('the frames in words', on_page(part, r'\.pcap`?: (\w+) frames'), words[count] if count < 10 else count)
+        for title, pattern, number in [
+                ('the number of packets', r'Number of packets: +(\d+)', count),
+                ('the file size', r'File size: +(\d+) bytes', len(pcap)),
+                ('the data size', r'Data size: +(\d+) bytes', sum(len(frame) for _, _, frame in found)),
+                ('the first packet time', r'First packet time: +1970-01-01 00:00:00\.(\d{6})', times[0]),
+                ('the last packet time', r'Last packet time: +1970-01-01 00:00:00\.(\d{6})', times[-1]),
+                ('what is imported', r'`imported (\d+)`(?!,)', count)]:
+            self.expect(f'{title} on the page', int(on_page(part, pattern) or -1), number)
+        lines = re.findall(r'^ +(\d+) +(\d+\.\d{6}) (\S+) → (\S+) 0x(\S+) (\d+) ', section(part), re.M)
+        shown = [(str(number), f'{(time - times[0]) / 1e6:.6f}', frame[6:12].hex(':'), frame[:6].hex(':'), frame[12:14].hex(),
+                  str(len(frame))) for number, (time, (_, _, frame)) in enumerate(zip(times, found), 1)]
+        self.expect('the lines of tshark on the page', lines, shown)
+        said = self.run(self.import_, 'recorded.pcap', 'recorded.again', '0', '64', makes=['recorded.again'])
+        times = ''.join(f'time 0 {time}\n' for time in times)
+        self.expect('what import_capture says of the recorded day', said, f'imported {count}\n{times}')
+
     def refusals(self):
-        """What is refused makes no file."""
+        """What is refused makes no file and leaves an old one; `run` tests that."""
         (self.folder / 'cut.pcap').write_bytes(HEADER + struct.pack('<IIII', 0, 0, 61, 61) + FRAME)
-        (self.folder / 'old.trace').write_bytes(b'old')
-        said = self.run(self.import_, 'cut.pcap', 'old.trace', '0', '60')
-        self.expect('what import_capture says of a cut record', said, 'refused 35\n')
-        self.expect('the file that was there', self.file('old.trace'), b'old')
-        said = self.run(self.export, 'cut.pcap', 'worked.memory', 'old.trace')
-        self.expect('what export_capture says of no trace', said, 'refused 17 0\n')
-        self.expect('the file that was there still', self.file('old.trace'), b'old')
+        (self.folder / 'old').write_bytes(b'old')
+        # into an old file, a new one, and the file that was read
+        for target in ['old', 'new', 'cut.pcap']:
+            said = self.run(self.import_, 'cut.pcap', target, '0', '64')
+            self.expect(f'what import_capture says of a cut record, into {target}', said, 'refused 35\n')
+            said = self.run(self.import_, 'worked.pcap', target, '0', '60')
+            self.expect(f'what import_capture says of no window, into {target}', said, 'refused 26\n')
+            said = self.run(self.export, 'cut.pcap', 'worked.memory', target)
+            self.expect(f'what export_capture says of no trace, into {target}', said, 'refused 17 0\n')
+        self.expect('the old file', self.file('old'), b'old')
+
+
+def section(title):
+    """The part of the page below this title."""
+    parts = PAGE.split(f'## {title}\n')
+    return parts[1].split('\n## ')[0] if len(parts) == 2 else ''
+
+
+def on_page(title, pattern):
+    """What the one place of that part has that is of this form."""
+    found = re.findall(pattern, section(title))
+    return found[0] if len(found) == 1 else None
 
 
 def worked_file(length):
     """The bytes that the page lists: an offset, then pairs of digits, `00 .. 00` for zeros up to the next offset; and where one is
     missing or stands there twice."""
-    part = PAGE.read_text().split('## A worked file')
-    lines = re.findall(r'^ +(\d+)  ((?:[0-9a-f]{2} )+)(\.\.)?', part[1].split('## ')[0], re.M) if len(part) == 2 else []
+    lines = re.findall(r'^ +(\d+)  ((?:[0-9a-f]{2} )+)(\.\.)?', section('A worked file'), re.M)
     data, gaps, end = bytearray(length), [], 0
     for place, (offset, pairs, more) in enumerate(lines):
         offset, pairs = int(offset), bytes.fromhex(pairs)
@@ -197,6 +256,7 @@ def main(programs):
         tests = Tests(folder, *programs)
         tests.worked_file()
         tests.small_day()
+        tests.recorded_day()
         tests.refusals()
         print(f'capture: {tests.passed} passed, {tests.failed} failed')
         return 1 if tests.failed or not tests.passed else 0

@@ -25,6 +25,17 @@ pub fn write(bytes: &[u8]) -> String {
     bytes.iter().map(|byte| format!("{byte:02x}")).collect()
 }
 
+/// The most bytes that a report shows.
+const SHOWN: usize = 8_192;
+
+/// Bytes for a report, if they are not too many; a seed gives those again.
+pub fn shown(bytes: &[u8]) -> String {
+    match bytes.len() {
+        0..=SHOWN => write(bytes),
+        _ => format!("{} .. (only the front)", write(&bytes[..SHOWN])),
+    }
+}
+
 #[cfg(test)]
 mod tests {
     use super::*;

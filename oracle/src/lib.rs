@@ -10,6 +10,7 @@ pub mod compare;
 pub mod console;
 pub mod delivered;
 pub mod device;
+pub mod difference;
 pub mod files;
 pub mod films;
 pub mod frames;

@@ -18,34 +18,33 @@ pub struct Exported {
 
 /// Puts the capture of a list at the front of the room and leaves its rest. A refusal changes nothing.
 pub fn export(list: &[u8], room: &mut [u8]) -> Exported {
-    match tested(list, room.len()) {
+    match made(list, room.len()) {
         Err(number) => Exported {
             number,
             ..Exported::default()
         },
-        Ok(frames) => {
-            let file = file(&frames);
+        Ok((file, frames)) => {
             room[..file.len()].copy_from_slice(&file);
             Exported {
                 number: DONE,
                 bytes: file.len() as u64,
-                frames: frames.len() as u64,
+                frames: frames as u64,
             }
         }
     }
 }
 
-/// The frames of a list that is not refused, or the first refusal.
-fn tested(list: &[u8], room: usize) -> Result<Vec<Timed>, u32> {
+/// The capture of a list that is not refused and how many frames it has, or the first refusal.
+fn made(list: &[u8], room: usize) -> Result<(Vec<u8>, usize), u32> {
     let frames = list::frames(list).ok_or(FRAMES_FORM)?;
     if let Some(number) = first_wrong(&frames) {
         return Err(number);
     }
-    // The entries have 12 bytes before a frame, the records 16, and no check sequence behind it.
-    if room < header::SIZE + list.len() {
+    let file = file(&frames);
+    if file.len() > room {
         return Err(EXPORT_ROOM);
     }
-    Ok(frames)
+    Ok((file, frames.len()))
 }
 
 /// The number of the first wrong frame, if there is one.

@@ -85,9 +85,10 @@ impl Shape {
             },
             Shape::ManyRecords => random.below(24),
             _ => match random.below(8) {
-                0 | 1 => random.below(5),
+                0 => 0,
+                1 => random.below(5),
                 2 => random.pick(&[11, 12, 15, 16, 17, 24, 59, 60, 64, 1_514, 1_515, 1_518]),
-                3 => random.between(0, 3_000),
+                3 | 4 => random.between(0, 3_000),
                 _ => random.below(100),
             },
         }

@@ -1,11 +1,14 @@
 //! The kinds of random capture, and one of each by turns.
 
-use super::{damage, good, office, Field, Film, RecordFault, FIELDS, RECORD_FAULTS};
+use super::fields::{Field, FIELDS};
+use super::good::{good, office};
+use super::record_faults::{RecordFault, RECORD_FAULTS};
+use super::{damage, Film};
 use crate::capture::header;
 use crate::random::Random;
 
 /// How many kinds take turns.
-pub const KINDS: u64 = 22;
+const KINDS: u64 = 22;
 
 /// The random capture of a seed; which kind it is goes by the seed too, so that all kinds come round.
 pub fn random(seed: u64) -> Film {

@@ -17,13 +17,13 @@ mod tests;
 
 pub use export_slips::ExportSlip;
 pub use fields::{names as field_names, Field, FIELDS};
-pub use frames::{right as right_frame, time, wrong as wrong_frame, Wrong, WRONGS};
-pub use good::{good, office, Shape, SHAPES};
+pub use frames::time;
+pub use good::{good, Shape, SHAPES};
 pub use import_slips::ImportSlip;
-pub use kinds::{random, KINDS};
+pub use kinds::random;
 pub use lending::Rooms;
 pub use lists::{FrameList, DAMAGES, FILLINGS};
-pub use record_faults::{RecordFault, RECORD_FAULTS};
+pub use record_faults::RECORD_FAULTS;
 pub use refusals::{of_export, of_import};
 
 /// A capture in the making, and what is known of it.

@@ -1,5 +1,6 @@
 //! The generators make what they say, and the wrong readings are wrong in their own way alone.
 
+use super::frames::WRONGS;
 use super::*;
 use crate::capture::{self, export, first_wrong, import, list};
 use crate::random::Random;
@@ -67,12 +68,12 @@ fn wrong_frames_are_wrong() {
     let random = &mut Random::new(34);
     for _ in 0..200 {
         for (wrong, number) in WRONGS.into_iter().zip([4, 4, 4, 4, 5]) {
-            let frame = wrong_frame(wrong, random);
+            let frame = frames::wrong(wrong, random);
             let time = time(random);
             let frames = [capture::Timed { time, frame }];
             assert_eq!(first_wrong(&frames), Some(number), "{wrong:?}");
         }
-        let frame = right_frame(random);
+        let frame = frames::right(random);
         let time = time(random);
         assert_eq!(first_wrong(&[capture::Timed { time, frame }]), None);
     }

@@ -1,7 +1,7 @@
 //! Whole outputs and captures by hand.
 
-use super::{export_capture, import_capture, replay, CAPTURE_ROOM, ROOM};
-use crate::capture::{self, header, record, Time};
+use super::{export_capture, import_capture, told, CAPTURE_ROOM, ROOM};
+use crate::capture::{header, record, Time};
 use crate::files::{Contents, Entry};
 use crate::random::Random;
 use crate::scripts::days::random_day;
@@ -106,28 +106,10 @@ fn a_capture_has_what_a_replay_tells() {
         let script = random_day(&mut random).join(&b'\n');
         let recording = recording::of(&script).unwrap();
         let (trace, memory) = (recording.trace(), &recording.image);
-        let told = replay::output(&trace, memory);
-        let events = recording.events.iter();
-        let frames: Vec<(u32, Vec<u8>)> = (0..)
-            .zip(told.lines().skip(1).zip(events))
-            .filter_map(
-                |(number, (line, event))| match (line.split_once(" 0"), event) {
-                    (Some(("frame", "")), Event::Frame { bytes }) => Some((number, bytes.clone())),
-                    (Some(("send", sent)), Event::Send) => {
-                        Some((number, hex::parse(sent.trim_start().as_bytes()).unwrap()))
-                    }
-                    _ => None,
-                },
-            )
-            .collect();
+        let frames = told::by_replay(&trace, memory);
         let exported = export_capture::export(&trace, memory).ok().unwrap();
-        let records = capture::records(&exported.file).unwrap();
-        let found: Vec<(u32, Vec<u8>)> = records
-            .iter()
-            .map(|record| (record.time.microseconds, check::closed(record.bytes)))
-            .collect();
-        assert_eq!(found, frames);
         met += frames.len();
+        assert_eq!(told::by_capture(&exported.file), Ok(frames));
     }
     assert!(met > 100, "{met}");
 }

@@ -8,6 +8,7 @@ pub mod record;
 pub mod replay;
 #[cfg(test)]
 mod tests;
+pub mod told;
 
 use crate::files::{Contents, Entry};
 use crate::trace::block;

@@ -1,14 +1,13 @@
 //! One comparison of each kind: the numbers found, and every byte of every lent buffer.
 
-use crate::difference::{self, BEFORE, FOUND};
+use crate::found::{self, FOUND};
 use crate::{expected, library, there_and_back};
 use oracle::capture::{self, Exported, Imported};
+use oracle::difference::{self, BEFORE};
 use oracle::films::{self, ExportSlip, Film, FrameList, ImportSlip, Rooms};
+use oracle::hex::shown;
+use oracle::numbers;
 use oracle::tally::Tally;
-use oracle::{hex, numbers};
-
-/// The most bytes of a capture or list that a report shows.
-const SHOWN: usize = 8_192;
 
 pub struct Comparison {
     pub tally: Tally,
@@ -35,7 +34,7 @@ impl Comparison {
         library::export(bytes, &mut got_room, &mut got);
         self.count_export(list, &wanted);
         let numbers = [wanted.number.into(), wanted.bytes, wanted.frames];
-        difference::found(&difference::list(numbers, self.found), &got)
+        difference::found(&FOUND, &found::list(numbers, self.found), &got)
             .and_then(|()| difference::buffer("room", room, &wanted_room, &got_room))
             .and_then(|()| match wanted.number {
                 numbers::DONE => {
@@ -64,7 +63,7 @@ impl Comparison {
         library::import(&film.bytes, &mut lefts.events, &mut lefts.times, &mut got);
         self.count_import(film, rooms, &wanted);
         let numbers = [wanted.number.into(), wanted.bytes, wanted.frames];
-        difference::found(&difference::list(numbers, self.found), &got)
+        difference::found(&FOUND, &found::list(numbers, self.found), &got)
             .and_then(|()| {
                 difference::buffer(
                     "the room for events",
@@ -115,6 +114,7 @@ impl Comparison {
         if wanted.number == numbers::DONE && room as u64 > wanted.bytes {
             tally.met(expected::EXPORT_REST);
         }
+        self.count_found("export");
     }
 
     fn count_import(&mut self, film: &Film, rooms: &Rooms, wanted: &Imported) {
@@ -141,16 +141,12 @@ impl Comparison {
         if wanted.number == numbers::DONE && times as u64 > 8 * wanted.frames {
             tally.met(expected::TIMES_REST);
         }
-        if self.found != FOUND.len() {
-            tally.met(expected::OTHER_FOUND);
-        }
+        self.count_found("import");
     }
-}
 
-/// Bytes as digits, if they are not too many; a seed gives those again.
-fn shown(bytes: &[u8]) -> String {
-    match bytes.len() {
-        0..=SHOWN => hex::write(bytes),
-        _ => format!("{} .. (only the front)", hex::write(&bytes[..SHOWN])),
+    fn count_found(&mut self, call: &str) {
+        if self.found != FOUND.len() {
+            self.tally.met(expected::other_found_name(call));
+        }
     }
 }

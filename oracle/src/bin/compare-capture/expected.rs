@@ -21,7 +21,6 @@ pub const EXPORTED_AGAIN: &str = "imported, and exported byte for byte";
 pub const EXPORT_REST: &str = "export: room left over";
 pub const EVENTS_REST: &str = "import: room for events left over";
 pub const TIMES_REST: &str = "import: room for times left over";
-pub const OTHER_FOUND: &str = "import: found list of another length";
 
 const SHORT_EVENTS: &str = "import 37: the room for events alone";
 const SHORT_TIMES: &str = "import 37: the room for times alone";
@@ -66,6 +65,10 @@ pub fn call_name(call: &str, number: u32) -> String {
     format!("{call} {number:>2}")
 }
 
+pub fn other_found_name(call: &str) -> String {
+    format!("{call}: found list of another length")
+}
+
 fn order_name(call: &str, given: u32, later: u32) -> String {
     format!("{call}: {given}, where {later} would be right too")
 }
@@ -96,11 +99,13 @@ pub fn import_slip_name(slip: ImportSlip) -> String {
     )
 }
 
-/// A name like `RoomBeforeForm` in words.
+/// A name like `VersionsIn8Bits` in words: one starts with each capital letter and each number.
 fn words(name: &str) -> String {
     let mut words = String::new();
     for letter in name.chars() {
-        if letter.is_uppercase() && !words.is_empty() {
+        let behind_digit = words.ends_with(|last: char| last.is_ascii_digit());
+        let starts = letter.is_uppercase() || letter.is_ascii_digit() && !behind_digit;
+        if starts && !words.is_empty() {
             words.push(' ');
         }
         words.push(letter.to_ascii_lowercase());
@@ -140,7 +145,6 @@ pub fn expect(tally: &mut Tally) {
         EXPORT_REST,
         EVENTS_REST,
         TIMES_REST,
-        OTHER_FOUND,
         SHORT_EVENTS,
         SHORT_TIMES,
         SHORT_BOTH,
@@ -148,6 +152,7 @@ pub fn expect(tally: &mut Tally) {
         tally.expect(kind);
     }
     for (call, numbers) in CALLS {
+        tally.expect(other_found_name(call));
         for number in numbers {
             tally.expect(call_name(call, *number));
         }
@@ -196,5 +201,16 @@ pub fn least(kind: &str) -> usize {
         FEW
     } else {
         LEAST
+    }
+}
+
+#[cfg(test)]
+mod tests {
+    use super::*;
+
+    #[test]
+    fn names_in_words() {
+        assert_eq!(words("RoomBeforeForm"), "room before form");
+        assert_eq!(words("LinkTypeIn16Bits"), "link type in 16 bits");
     }
 }

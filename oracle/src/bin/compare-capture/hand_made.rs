@@ -79,7 +79,7 @@ fn captures(comparison: &mut Comparison, random: &mut Random) -> Result<(), Stri
         }
     }
     // Every wrong field, many times over; two of them; and all three.
-    for _ in 0..80 {
+    for _ in 0..200 {
         for first in 0..FIELDS.len() {
             let mut film = Shape::Office.make(random);
             for (more, field) in FIELDS[first..].iter().enumerate() {

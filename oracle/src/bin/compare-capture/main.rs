@@ -2,8 +2,8 @@
 //! every byte of every lent buffer; and that each gives back what the other was given.
 
 mod compare;
-mod difference;
 mod expected;
+mod found;
 mod hand_made;
 mod library;
 mod there_and_back;
@@ -32,7 +32,7 @@ impl runs::Comparison for Comparison {
     const PROGRAM: Program = Program {
         name: "compare-capture",
         // Random captures to be imported, and as many lists to be exported.
-        cases: 8_000,
+        cases: 12_000,
         expect: expected::expect,
         least: expected::least,
     };
@@ -62,6 +62,6 @@ fn found_length(random: &mut Random) -> usize {
     match random.below(10) {
         0 => random.below(3),
         1 => random.between(4, 6),
-        _ => difference::FOUND.len(),
+        _ => found::FOUND.len(),
     }
 }

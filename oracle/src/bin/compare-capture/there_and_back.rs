@@ -2,9 +2,10 @@
 //! byte for byte, what is exported of what was imported. Both are asked of the library and of the
 //! oracle.
 
-use crate::difference::{self, BEFORE, FOUND};
+use crate::found::FOUND;
 use crate::{expected, library};
 use oracle::capture::{self, header, list, record, Timed};
+use oracle::difference::{self, BEFORE};
 use oracle::numbers::DONE;
 use oracle::tally::Tally;
 use oracle::trace::{self, Event};
@@ -33,7 +34,7 @@ pub fn imported(tally: &mut Tally, list: &[u8], file: &[u8]) -> Result<(), Strin
     let (mut events, mut times) = before.clone();
     let mut got = [BEFORE; FOUND.len()];
     library::import(file, &mut events, &mut times, &mut got);
-    difference::found(&numbers, &got)
+    difference::found(&FOUND, &numbers, &got)
         .and_then(|()| difference::buffer("the events", &before.0, &wanted_events, &events))
         .and_then(|()| difference::buffer("the times", &before.1, &wanted_times, &times))
         .map_err(|text| format!("imported again of what was exported: {text}"))
@@ -69,7 +70,7 @@ pub fn exported(tally: &mut Tally, file: &[u8], events: &[u8], times: &[u8]) -> 
     let mut got = [BEFORE; FOUND.len()];
     library::export(&list, &mut room, &mut got);
     let numbers = [DONE.into(), file.len() as u64, (times.len() / 8) as u64];
-    difference::found(&numbers, &got)
+    difference::found(&FOUND, &numbers, &got)
         .and_then(|()| difference::buffer("the capture", &before, file, &room))
         .map_err(|text| format!("exported again of what was imported: {text}"))
 }

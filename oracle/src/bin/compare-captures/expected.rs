@@ -146,7 +146,7 @@ pub fn expect(tally: &mut Tally) {
             }
         }
     }
-    for target in targets::all() {
+    for target in targets::all().into_iter().chain(targets::of_memory()) {
         tally.expect(target_name(target.kind, false));
         if target.can_be_old(&targets::inputs()) {
             tally.expect(target_name(target.kind, true));
@@ -169,6 +169,13 @@ pub fn expect(tally: &mut Tally) {
     }
     for kind in large::kinds() {
         tally.expect(kind);
+    }
+}
+
+/// What must be met besides where a folder can be closed.
+pub fn expect_closed(tally: &mut Tally) {
+    for target in targets::closed() {
+        tally.expect(target_name(target.kind, false));
     }
 }
 

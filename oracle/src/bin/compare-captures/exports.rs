@@ -2,14 +2,14 @@
 
 use crate::compare::{Comparison, ALSO, IN, OUT};
 use crate::{expected, imports, targets};
-use oracle::capture::{self, Time};
 use oracle::files::{Contents, Entry};
+use oracle::hex::shown;
 use oracle::numbers::{DONE, NOT_GRANTED};
 use oracle::programs::replay;
+use oracle::programs::told::{self, Told};
 use oracle::random::Random;
 use oracle::tapes::{self, MEMORIES};
 use oracle::trace::{self, Event};
-use oracle::{check, hex};
 
 /// The trace of a seed, good or not, with a memory of its own, into a target of its own.
 pub fn random(comparison: &mut Comparison, seed: u64) -> Result<(), String> {
@@ -27,12 +27,12 @@ pub fn random(comparison: &mut Comparison, seed: u64) -> Result<(), String> {
     let memory = tapes::memory(&tape, kind, random);
     comparison.tally.met(expected::memory_name(kind));
     day(comparison, &tape.bytes, &memory, random).map_err(|difference| {
-        let shown = hex::write(&tape.bytes[..tape.bytes.len().min(8_192)]);
         format!(
-            "{difference}\nmemory of {} bytes ({kind}), trace of {} ({}): {shown}",
+            "{difference}\nmemory of {} bytes ({kind}), trace of {} ({}): {}",
             memory.len(),
             tape.bytes.len(),
-            tape.kind
+            tape.kind,
+            shown(&tape.bytes)
         )
     })
 }
@@ -61,56 +61,16 @@ fn day(
     )?;
     match ended {
         Some(ended) if ended.output.starts_with("exported") => {
-            let told = told(trace, memory);
+            let told = told::by_replay(trace, memory);
             count(comparison, trace, memory);
-            as_told(&ended.after, &given, &told)?;
+            // The oracle by two ways; the program has made the same file.
+            let file = ended.after.read(&given).expect("the capture was made");
+            if told::by_capture(file).as_ref() != Ok(&told) {
+                return Err("the capture has other frames than the oracle's replay".to_string());
+            }
             again(comparison, ended.after, &given, &told, random)
         }
         _ => Ok(()),
-    }
-}
-
-/// A frame as a replay tells it: its event's number, and its bytes.
-type Told = (usize, Vec<u8>);
-
-/// The frames of a day by the lines that a replay writes of it.
-fn told(trace: &[u8], memory: &[u8]) -> Vec<Told> {
-    let content = trace::content(trace).expect("a day that is exported has no bad block");
-    let output = replay::output(trace, memory);
-    let lines = output.lines().skip(1);
-    let frame = |(number, (line, event)): (usize, (&str, Event))| {
-        let words: Vec<&str> = line.split(' ').collect();
-        match (&words[..], event) {
-            (["frame", "0"], Event::Frame { bytes }) => Some((number, bytes)),
-            (["send", "0", digits], Event::Send) => {
-                let bytes = hex::parse(digits.as_bytes());
-                Some((number, bytes.expect("a send tells its bytes")))
-            }
-            _ => None,
-        }
-    };
-    lines
-        .zip(trace::events(&content.events))
-        .enumerate()
-        .filter_map(frame)
-        .collect()
-}
-
-/// The capture has the frames that the replay told, without their check sequences, at their times.
-fn as_told(after: &Contents, name: &str, told: &[Told]) -> Result<(), String> {
-    let file = after.read(name).expect("the capture was made");
-    let records = capture::records(file).map_err(|number| format!("made, and refused {number}"))?;
-    let frames = records.iter().map(|record| {
-        let Time {
-            seconds,
-            microseconds,
-        } = record.time;
-        let number = 1_000_000 * seconds as usize + microseconds as usize;
-        (number, check::closed(record.bytes))
-    });
-    match frames.eq(told.iter().cloned()) {
-        true => Ok(()),
-        false => Err("the capture has other frames or times than the replay tells".to_string()),
     }
 }
 

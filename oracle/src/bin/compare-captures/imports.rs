@@ -4,8 +4,9 @@ use crate::compare::{Comparison, IN, OUT};
 use crate::{expected, targets};
 use oracle::capture::{self, header, record, Time};
 use oracle::files::Entry;
-use oracle::films::{self, Film};
-use oracle::hex;
+use oracle::films::{self, Field, Film, Shape, FIELDS, RECORD_FAULTS};
+use oracle::hex::shown;
+use oracle::numbers::{RECORD_CUT, RECORD_LENGTHS};
 use oracle::random::Random;
 
 /// Words that are no base address.
@@ -97,10 +98,7 @@ pub fn window(random: &mut Random) -> (u32, u32) {
 /// The capture of a seed, good or not, with words and a target of its own.
 pub fn random(comparison: &mut Comparison, seed: u64) -> Result<(), String> {
     let random = &mut Random::new(seed ^ 0x1306);
-    let film = match seed % 3 {
-        0 => films::good(random),
-        _ => films::random(seed),
-    };
+    let film = film(seed, random);
     let [base, length] = words(comparison, random);
     let target = targets::random(random);
     let inputs = comparison.with(&[(IN, &film.bytes)]);
@@ -115,21 +113,56 @@ pub fn random(comparison: &mut Comparison, seed: u64) -> Result<(), String> {
         |comparison, name, before| comparison.import(&[IN, name, &base, &length], before),
     )
     .map_err(|difference| {
-        let shown = hex::write(&film.bytes[..film.bytes.len().min(8_192)]);
-        let kind = &film.kind;
+        let Film { kind, bytes, .. } = &film;
+        let length = bytes.len();
         format!(
-            "{difference}\ncapture of {} ({kind}): {shown}",
-            film.bytes.len()
+            "{difference}\ncapture of {length} ({kind}): {}",
+            shown(bytes)
         )
     })?;
     Ok(())
+}
+
+/// A capture, good or not; what one of any kind has seldom comes round by itself.
+fn film(seed: u64, random: &mut Random) -> Film {
+    let [_, version, link] = FIELDS;
+    match seed % 8 {
+        0 => Shape::HeaderAlone.make(random),
+        1 => random
+            .pick(&[Shape::AnyLengths, Shape::AnyLengths, Shape::LongRecord])
+            .make(random),
+        2 => wrong_field(version, random),
+        3 => wrong_field(link, random),
+        4 => wrong_record(RECORD_CUT, random),
+        5 => wrong_record(RECORD_LENGTHS, random),
+        _ => films::random(seed),
+    }
+}
+
+fn wrong_field(field: Field, random: &mut Random) -> Film {
+    let mut film = films::good(random);
+    film.kind = field.put(&mut film, random);
+    film
+}
+
+/// A capture whose last record is refused by this number.
+fn wrong_record(number: u32, random: &mut Random) -> Film {
+    let mut film = Shape::Office.make(random);
+    let faults = RECORD_FAULTS.into_iter();
+    let faults: Vec<_> = faults.filter(|fault| fault.number() == number).collect();
+    let fault = random.pick(&faults);
+    let last = film.starts.len() - 1;
+    let put = fault.put(&mut film, last, random);
+    put.expect("a record of some bytes can have every fault");
+    film.kind = format!("{fault:?}");
+    film
 }
 
 /// A base and a length: most often an allowed window.
 fn words(comparison: &mut Comparison, random: &mut Random) -> [String; 2] {
     let (base, length) = window(random);
     let (base, length) = (format!("{base:x}"), length.to_string());
-    let (kind, words) = match random.below(16) {
+    let (kind, words) = match random.below(32) {
         0 => ("no base", [random.pick(&NO_BASES).to_string(), length]),
         1 => ("no length", [base, random.pick(&NO_LENGTHS).to_string()]),
         2 => (
@@ -139,11 +172,11 @@ fn words(comparison: &mut Comparison, random: &mut Random) -> [String; 2] {
                 random.pick(&NO_LENGTHS).to_string(),
             ],
         ),
-        3..=5 => {
+        3..=8 => {
             let (base, length) = random.pick(&NO_WINDOWS);
             ("window not allowed", [base.to_string(), length.to_string()])
         }
-        6 | 7 => {
+        9..=12 => {
             let (base, length) = random.pick(&WINDOWS);
             ("window at a limit", [base.to_string(), length.to_string()])
         }
@@ -177,22 +210,23 @@ fn count(comparison: &mut Comparison, film: &Film) {
     }
 }
 
-/// Every word, with a good capture and without one; every number of arguments; times at their limits.
+/// Every word; every number of arguments; times and lengths at their limits.
 pub fn made_by_hand(comparison: &mut Comparison) -> Result<(), String> {
     let pcap = targets::pcap(60);
     let mut before = comparison.with(&[(IN, &pcap)]);
     before.put(OUT, Entry::File(vec![7; 100]));
-    let bases = NO_BASES.map(|base| (base, "64"));
-    let lengths = NO_LENGTHS.map(|length| ("0", length));
-    let both = NO_BASES.into_iter().zip(NO_LENGTHS);
-    let wrong: Vec<(&str, &str)> = bases.into_iter().chain(lengths).chain(both).collect();
-    for (base, length) in &wrong {
-        for file in [IN, "none"] {
-            comparison.import(&[file, OUT, base, length], &before)?;
+    let both: Vec<(&str, &str)> = NO_BASES.into_iter().zip(NO_LENGTHS).collect();
+    for (kind, words) in [
+        ("no base", &NO_BASES.map(|base| (base, "64"))[..]),
+        ("no length", &NO_LENGTHS.map(|length| ("0", length))),
+        ("neither", &both),
+        ("window at a limit", &WINDOWS),
+        ("window not allowed", &NO_WINDOWS),
+    ] {
+        for (base, length) in words {
+            comparison.tally.met(expected::words_name(kind));
+            comparison.import(&[IN, OUT, base, length], &before)?;
         }
-    }
-    for (base, length) in WINDOWS.into_iter().chain(NO_WINDOWS) {
-        comparison.import(&[IN, OUT, base, length], &before)?;
     }
     for words in [
         &[][..],
@@ -205,23 +239,34 @@ pub fn made_by_hand(comparison: &mut Comparison) -> Result<(), String> {
     ] {
         comparison.import(words, &before)?;
     }
-    times(comparison)
+    records(comparison)
 }
 
-/// Times of every number of digits.
-fn times(comparison: &mut Comparison) -> Result<(), String> {
-    let mut file = header::made().to_vec();
+/// Lengths of records, the seldom ones among them.
+const LENGTHS: [usize; 10] = [0, 1, 59, 60, 1_514, 1_515, 1_518, 3_000, 65_535, 65_536];
+
+/// Times of every number of digits, with records of every length at a limit.
+fn records(comparison: &mut Comparison) -> Result<(), String> {
+    let mut film = Film {
+        kind: "by hand".to_string(),
+        bytes: header::made().to_vec(),
+        starts: Vec::new(),
+    };
+    let mut lengths = LENGTHS.into_iter().cycle();
     for number in (0..10).map(|power| 10_u32.pow(power)).chain([0, u32::MAX]) {
-        for time in [(number, 0), (0, number), (number - number.min(1), number)] {
-            let (seconds, microseconds) = time;
+        for (seconds, microseconds) in [(number, 0), (0, number), (number - number.min(1), number)]
+        {
             let time = Time {
                 seconds,
                 microseconds,
             };
-            file.extend(record::made(time, &[]));
+            let length = lengths.next().expect("they come round");
+            film.bytes.extend(record::made(time, &vec![0x5A; length]));
         }
     }
-    let before = comparison.with(&[(IN, &file)]);
-    comparison.import(&[IN, OUT, "0", "64"], &before)?;
+    count(comparison, &film);
+    let before = comparison.with(&[(IN, &film.bytes)]);
+    let ended = comparison.import(&[IN, OUT, "0", "64"], &before)?;
+    assert!(ended.output.starts_with("imported 36\n"));
     Ok(())
 }

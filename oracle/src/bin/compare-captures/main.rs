@@ -51,7 +51,7 @@ impl runs::Comparison for Comparison {
     const PROGRAM: Program = Program {
         name: "compare-captures",
         // Random days, and as many captures.
-        cases: 400,
+        cases: 250,
         expect: expected::expect,
         least: expected::least,
     };

@@ -60,14 +60,17 @@ pub fn compare(comparison: &mut Comparison) -> Result<(), String> {
             [wrong, "memory"],
             ["good", wrong],
             ["bad", wrong],
-            ["empty", wrong],
-            [wrong, "none too"],
-            ["none too", wrong],
         ] {
             comparison.export(&[trace, memory, OUT], &before)?;
         }
         comparison.import(&[wrong, OUT, "0", "64"], &before)?;
-        comparison.import(&[wrong, "none/out", "0", "60"], &before)?;
+    }
+    for [trace, memory] in [
+        ["none", "none too"],
+        ["none too", "none"],
+        ["empty", "none"],
+    ] {
+        comparison.export(&[trace, memory, OUT], &before)?;
     }
     let whole = ["good", "/memory", "pcap"].map(|name| format!("{}/{name}", before.home));
     for [trace, memory] in [

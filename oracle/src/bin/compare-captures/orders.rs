@@ -101,13 +101,15 @@ fn export(comparison: &mut Comparison, wrong: usize) -> Result<(), String> {
 /// Each fault of a trace in its first, a middle or its last block, with an old file that stays.
 fn traces(comparison: &mut Comparison) -> Result<(), String> {
     let random = &mut Random::new(0x0DE4);
-    for _ in 0..16 {
+    for _ in 0..20 {
         let good = tapes::good(random);
         for fault in FAULTS {
             let mut tape = good.clone();
             let last = tape.blocks() - 1;
             let place = random.pick(&[0, last, last / 2]);
-            if fault.put(&mut tape, place, random).is_some() {
+            // The last block can have every fault.
+            let put = fault.put(&mut tape, place, random);
+            if put.is_some() || fault.put(&mut tape, last, random).is_some() {
                 exports::over_old(comparison, &tape.bytes, &tape.image)?;
             }
         }
@@ -133,14 +135,20 @@ fn captures(comparison: &mut Comparison) -> Result<(), String> {
         file.extend(&record::made(time, &[1, 2])[..17]);
         file
     };
+    let cut = |length: usize| good[..length].to_vec();
     for (file, number) in [
-        (good[..23].to_vec(), 31),
-        (Vec::new(), 31),
+        (cut(0), 31),
+        (cut(1), 31),
+        (cut(4), 31),
+        (cut(8), 31),
+        (cut(16), 31),
+        (cut(20), 31),
+        (cut(23), 31),
         (changed(0), 32),
         (changed(4), 33),
         (changed(6), 33),
         (changed(23), 34),
-        (good[..good.len() - 1].to_vec(), 35),
+        (cut(good.len() - 1), 35),
         (unequal, 36),
     ] {
         let mut before = comparison.with(&[(IN, &file)]);

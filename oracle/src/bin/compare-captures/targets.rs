@@ -97,6 +97,25 @@ const NOT_MADE: &str = "
     256 characters in a folder        | folder/{256}    |
 ";
 
+/// Names of the memory that an export is given beside its input.
+const MEMORY_MADE: &str = "
+    beside a link .new00 to memory    | out             | .new00 -> also
+    named as the memory's .new00      | also.new00      |
+    the memory itself                 | also            |
+    the memory itself, with a dot     | ./also          |
+    the memory through a folder       | folder/../also  |
+    the memory by its whole path      | {home}/also     |
+    a link to the memory              | out             | out -> also
+    a link to a link to the memory    | out             | out -> way, way -> also
+    the memory in a linked folder     | way/also        | way -> .
+";
+
+const MEMORY_NOT_MADE: &str = "
+    the memory with a slash           | also/           |
+    in the memory                     | also/out        |
+    a link to the memory by a slash   | way/            | way -> also
+";
+
 /// The same where a folder without the right to write refuses a user.
 const CLOSED: &str = "
     in a closed folder                | closed/out      | closed!
@@ -106,6 +125,16 @@ pub type Target = target::Target<1>;
 
 pub fn all() -> Vec<Target> {
     [MADE, FOLDERS, NOT_MADE].map(rows).concat()
+}
+
+/// Those of an export alone.
+pub fn of_memory() -> Vec<Target> {
+    [MEMORY_MADE, MEMORY_NOT_MADE].map(rows).concat()
+}
+
+/// Those for a user who may not write everywhere.
+pub fn closed() -> Vec<Target> {
+    rows(CLOSED)
 }
 
 /// A target, most often one that can be made, and often the plain one.
@@ -126,21 +155,36 @@ pub fn compare(comparison: &mut Comparison) -> Result<(), String> {
     let random = &mut Random::new(0x7A46);
     let mut targets = all();
     match comparison.folder.can_be_closed() {
-        true => targets.extend(rows(CLOSED)),
+        true => {
+            expected::expect_closed(&mut comparison.tally);
+            targets.extend(closed());
+        }
         false => comparison.tally.met(expected::CLOSED_LEFT_OUT),
     }
     let (trace, memory) = day(14);
-    for target in targets {
+    let pcap = pcap(60);
+    for target in targets.iter().copied().chain(of_memory()) {
         for old in [false, true] {
             let inputs = comparison.with(&[(IN, &trace), (ALSO, &memory)]);
             into(comparison, target, inputs, old, random, export)?;
-            let inputs = comparison.with(&[(IN, &pcap(60))]);
+        }
+    }
+    for target in targets {
+        for old in [false, true] {
+            let inputs = comparison.with(&[(IN, &pcap)]);
             into(comparison, target, inputs, old, random, import)?;
         }
-        let inputs = comparison.with(&[(IN, &trace[1..]), (ALSO, &memory)]);
-        into(comparison, target, inputs, true, random, export)?;
-        let inputs = comparison.with(&[(IN, &pcap(60)[1..])]);
-        into(comparison, target, inputs, true, random, import)?;
+    }
+    // What is refused leaves an old file, or an input, where one could be made in its place.
+    for target in [MADE, MEMORY_MADE].map(rows).concat() {
+        let old = target.can_be_old(&inputs());
+        let both = comparison.with(&[(IN, &trace[1..]), (ALSO, &memory)]);
+        into(comparison, target, both, old, random, export)?;
+    }
+    for target in rows(MADE) {
+        let old = target.can_be_old(&inputs());
+        let input = comparison.with(&[(IN, &pcap[1..])]);
+        into(comparison, target, input, old, random, import)?;
     }
     Ok(())
 }
@@ -221,7 +265,9 @@ mod tests {
     fn what_can_be_made_and_what_cannot() {
         let random = &mut Random::new(17);
         let (trace, memory) = day(14);
-        for table in [MADE, FOLDERS, NOT_MADE, CLOSED] {
+        let not_made = [FOLDERS, NOT_MADE, MEMORY_NOT_MADE, CLOSED];
+        for table in [MADE, MEMORY_MADE].into_iter().chain(not_made) {
+            let can = !not_made.contains(&table);
             for target in rows::<1>(table) {
                 for old in [false, true] {
                     let mut inputs = inputs();
@@ -234,7 +280,7 @@ mod tests {
                     let words = [IN, ALSO, &place.names[0]].map(String::from);
                     let ended = export_capture::run(&words, &place.before);
                     let made = ended.output == "exported 1\n";
-                    assert_eq!(made, table == MADE, "{} {old}", target.kind);
+                    assert_eq!(made, can, "{} {old}", target.kind);
                     assert_eq!(ended.after != place.before, made, "{}", target.kind);
                 }
             }

@@ -169,6 +169,13 @@ pub fn expect(tally: &mut Tally) {
     }
 }
 
+/// What must be met besides where a folder can be closed.
+pub fn expect_closed(tally: &mut Tally) {
+    for target in targets::closed() {
+        tally.expect(target_name(target.kind, false));
+    }
+}
+
 /// What is made by hand alone, by the front of its name.
 const BY_HAND: [&str; 11] = [
     "record: usage",

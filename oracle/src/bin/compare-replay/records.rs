@@ -120,7 +120,10 @@ pub fn made_by_hand(comparison: &mut Comparison) -> Result<(), String> {
     };
     let mut targets = targets::all();
     match comparison.folder.can_be_closed() {
-        true => targets.extend(targets::closed()),
+        true => {
+            expected::expect_closed(&mut comparison.tally);
+            targets.extend(targets::closed());
+        }
         false => comparison.tally.met(expected::CLOSED_LEFT_OUT),
     }
     for target in targets {

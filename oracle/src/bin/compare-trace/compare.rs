@@ -1,17 +1,15 @@
 //! One comparison of each kind: the numbers found, and every byte of every lent buffer.
 
-use crate::difference::{self, BEFORE};
 use crate::{expected, found, library};
 use oracle::delivered::Delivered;
 use oracle::device::Window;
+use oracle::difference::{self, BEFORE};
+use oracle::hex::shown;
+use oracle::numbers;
 use oracle::tally::Tally;
 use oracle::tapes::{Lent, List, Tape};
 use oracle::trace::{self, block, Header, Reading, BLOCKS_MOST};
 use oracle::ungranted::Ungranted;
-use oracle::{hex, numbers};
-
-/// The most bytes of a trace or list that a report shows.
-const SHOWN: usize = 8_192;
 
 #[derive(Default)]
 pub struct Comparison {
@@ -241,12 +239,4 @@ fn later_refusals(list: &List, given: u32) -> Vec<u32> {
         .filter(|(number, too)| *too && given != numbers::DONE && *number > given)
         .map(|(number, _)| number)
         .collect()
-}
-
-/// Bytes as digits, if they are not too many; a seed gives those again.
-fn shown(bytes: &[u8]) -> String {
-    match bytes.len() {
-        0..=SHOWN => hex::write(bytes),
-        _ => format!("{} .. (only the front)", hex::write(&bytes[..SHOWN])),
-    }
 }

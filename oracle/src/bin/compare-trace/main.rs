@@ -2,7 +2,6 @@
 //! found and every byte of every lent buffer.
 
 mod compare;
-mod difference;
 mod expected;
 mod found;
 mod large;
