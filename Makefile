@@ -136,7 +136,7 @@ outside-block:
 	python3 tests/trace.py target/bin/record target/bin/replay
 
 outside-file:
-	@echo '== the worked file of docs/CAPTURE.md, and the capture of a small day'
+	@echo '== docs/CAPTURE.md: the worked file, a small day, the recorded day'
 	python3 tests/capture.py target/bin/record target/bin/export_capture target/bin/import_capture target/bin/replay
 
 outside-day:

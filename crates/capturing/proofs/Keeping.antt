@@ -12,8 +12,7 @@ use Rattle.event.specs.declared.Found.{Found}
 use Rattle.event.specs.declared.Found.the-variants.{RegisterWrite, Grant, Frame, Send, Cut, NoEvent}
 use Rattle.pcap_list.specs.Entries.{entryBytes}
 use Rattle.capturing.specs.declared.Kept.{Kept}
-use Rattle.capturing.specs.Captured.{timed}
-use Rattle.capturing.specs.Capturing.{Listing, kept, behindPut, keep, keepFound}
+use Rattle.capturing.specs.Capturing.{timed, Listing, kept, behindPut, keep, keepFound}
 
 module _ (k : Kept) (l : List ℕ) (number i : ℕ) (f : List ℕ) where
   pub not-done : (number ≡ 0 → ⊥) → kept k l ≡ keep (kept k l) number i f

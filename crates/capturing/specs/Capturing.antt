@@ -1,5 +1,5 @@
 -- A recorded day as the code captures it, event by event. Assumes nothing.
-use Prim.Native.Nat.{ℕ, suc}
+use Prim.Native.Nat.{ℕ, suc, _/_, _%_}
 use mathlib.Core.Bool.{Bool, true, false}
 use mathlib.Core.List.{List, [], _∷_}
 use lib.Dec.{eqb}
@@ -12,10 +12,14 @@ use Rattle.event.specs.declared.Found.the-variants.{RegisterWrite, Grant, Frame
 use Rattle.enet.specs.Device.{new}
 use Rattle.calls.specs.Calls.{Bench}
 use Rattle.playback.specs.Playing.{Acting, benchOf, act, actAs}
+use Rattle.pcap.specs.Capture.{Captured}
 use Rattle.pcap_list.specs.Entries.{entryBytes}
-use Rattle.capturing.specs.Captured.{timed}
 use Rattle.capturing.specs.declared.Kept.{Kept}
 use Rattle.capturing.specs.declared.Day.{Day}
+
+-- "The time of a frame is its event's number from 0, in microseconds; the seconds are its millions."
+abbrev pub timed : ℕ → List ℕ → Captured
+timed i f = record { seconds = i / 1000000; microseconds = i % 1000000; frame = f }
 
 -- ---- the list
 

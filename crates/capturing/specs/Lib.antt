@@ -1,3 +1,1 @@
-pub mod Captured
 pub mod Capturing
-pub mod Claims

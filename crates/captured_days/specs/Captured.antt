@@ -1,5 +1,5 @@
 -- The frames of a recorded day that a capture of it has (docs/CAPTURE.md, "export_capture"). Assumes nothing.
-use Prim.Native.Nat.{ℕ, suc, _/_, _%_}
+use Prim.Native.Nat.{ℕ, suc}
 use mathlib.Core.List.{List, [], _∷_, _++_}
 use lib.Dec.{eqb}
 use lib.ListN.{take}
@@ -8,10 +8,7 @@ use Rattle.event.specs.Event.{Event, registerWrite, grant, frame, send}
 use Rattle.calls.specs.Calls.{Bench}
 use Rattle.playback.specs.Playing.{Acting, act}
 use Rattle.pcap.specs.Capture.{Captured}
-
--- "The time of a frame is its event's number from 0, in microseconds; the seconds are its millions."
-abbrev pub timed : ℕ → List ℕ → Captured
-timed i f = record { seconds = i / 1000000; microseconds = i % 1000000; frame = f }
+use Rattle.capturing.specs.Capturing.{timed}
 
 -- the frame of event i, if its call answered 0
 abbrev pub ifDone : ℕ → ℕ → List ℕ → List Captured

@@ -9,8 +9,8 @@ use Rattle.event.specs.Event.{Event}
 use Rattle.playback.specs.Playing.{benchOf, play}
 use Rattle.enet.specs.Device.{new}
 use Rattle.pcap_list.specs.Entries.{listBytes}
-use Rattle.capturing.specs.Captured.{capturedFrom}
+use Rattle.captured_days.specs.Captured.{capturedFrom}
 use Rattle.capturing.specs.Capturing.{captureAll, begun}
 
 -- of a day on a new bench, into a list
 pub record Captures (base window : ℕ) (memory output list : List ℕ) (es : List Event) : Type 0 where

@@ -19,9 +19,9 @@ use Rattle.playback.specs.Playing.{Acting, benchOf, act, play}
 use Rattle.enet.specs.Device.{new}
 use Rattle.pcap.specs.Capture.{Captured}
 use Rattle.pcap_list.specs.Entries.{entryHead, entryBytes, listBytes}
-use Rattle.capturing.specs.Captured.{timed, ifDone, capturedOf, capturedFrom}
-use Rattle.capturing.specs.Capturing.{Listing, behindPut, keep, Capturing, keepOf, step, captureAll, begun}
-use Rattle.capturing.specs.Claims.{Captures, CapturesAll}
+use Rattle.captured_days.specs.Captured.{ifDone, capturedOf, capturedFrom}
+use Rattle.capturing.specs.Capturing.{timed, Listing, behindPut, keep, Capturing, keepOf, step, captureAll, begun}
+use Rattle.captured_days.specs.Claims.{Captures, CapturesAll}
 
 -- ---- the day that is played
 
