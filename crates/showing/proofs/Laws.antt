@@ -11,26 +11,13 @@ use Rattle.event.specs.Sizes.{sizeOf}
 use Rattle.event.specs.Walk.{walk}
 use Rattle.event.proofs.Ahead.{walk-on}
 use Rattle.event.proofs.Laws.{size-room}
-use Rattle.enet.specs.declared.Answered.{Answered}
-use Rattle.enet.specs.Device.{new}
-use Rattle.text.specs.Text.{written, put}
-use Rattle.words.specs.Words.{characters}
-use Rattle.day_reports.specs.DayReports.{placed}
 use Rattle.playback.specs.declared.Acted.{Acted}
 use Rattle.playback.specs.Playing.{benchOf, acting, actAs, play}
 use Rattle.playback.proofs.Laws.{act-at}
 use Rattle.playback.proofs.Turns.{walk-ends}
 use Rattle.event.specs.declared.Found.{Found}
-use Rattle.showing.specs.declared.Day.{Day}
-use Rattle.showing.specs.Showing.{Left, opened, opening, left, next, shown, shownOver}
-
--- ---- the first line
-
-pub opens : (base window : ℕ) (made : Answered) (t t′ : List ℕ) (end : ℕ) → made ≡ new base window
-    → written end t′ ≡ put t 0 (placed (characters "window") base window)
-    → opened (record { device = made .device; waiting = end }) t′ ≡ opening base window t
-unfolding opening
-opens base window made t t′ end e w = λ j. record { device = e j .device; text = w j }
+use Rattle.day_lines.specs.declared.Day.{Day}
+use Rattle.showing.specs.Showing.{Left, left, next, shown, shownOver}
 
 -- ---- one event
 

@@ -2,33 +2,11 @@
 use Prim.Native.Nat.{ℕ}
 use mathlib.Core.List.{List, _++_}
 use lib.ListN.{take, drop}
-use Rattle.text.specs.Text.{Text, written, put}
-use Rattle.words.specs.Words.{characters}
 use Rattle.event.specs.Walk.{walk}
 use Rattle.event.specs.declared.Found.{Found}
-use Rattle.enet.specs.declared.Enet.{Enet}
-use Rattle.enet.specs.Device.{new}
 use Rattle.calls.specs.Calls.{Bench}
 use Rattle.playback.specs.Playing.{benchOf, actAs, play}
-use Rattle.day_reports.specs.DayReports.{placed}
-use Rattle.showing.specs.declared.Day.{Day}
-
--- ---- the first line
-
-pub record Opened : Type 0 where
-  pub device : Enet
-  pub text : Text
-
--- what the code's answer and the buffer at its end say together
-abbrev pub opened : Day → List ℕ → Opened
-opened day text = record { device = day .device; text = written (day .waiting) text }
-
--- "`window BASE LENGTH`", and a new bench of that window
-unfoldable pub opening : ℕ → ℕ → List ℕ → Opened
-opening base window text =
-    record { device = new base window .device; text = put text 0 (placed (characters "window") base window) }
-
--- ---- the events
+use Rattle.day_lines.specs.declared.Day.{Day}
 
 pub record Left : Type 0 where
   pub bench : Bench

@@ -1,53 +1,10 @@
-// The lines of a replayed day, written as they come (docs/TRACE.md, "replay"): a day may have millions of events, and no list of
-// answers is kept. What the system's calls do is assumed; proved is that a day that is shown is the day that is played.
+// The events of a replayed day, each with its line, written as they come (docs/TRACE.md, "replay"). Proved is that a day that is shown is
+// the day that is played.
 ghost use mathlib.Core.Path.{_≡_};
-ghost use Prim.Native.Nat.{_≤_};
 ghost use lib.ListN.{drop};
 ghost use Rattle.event.specs.Front.{front, found};
-ghost use Rattle.showing.specs.Showing.{opened, opening, left, next, shown, shownOver};
-use enet::Enet;
-use libc::STDOUT_FILENO;
-
-// Text that waits to be written.
-pub const TEXT: usize = 65_536;
-
-// So much may wait before a line: the longest is that of a send, with the digits of 1,518 bytes.
-const MOST: usize = TEXT - 4096;
-
-// How far a day is: the device, and how much text waits to be written.
-pub struct Day {
-    pub device: Enet,
-    pub waiting: usize,
-}
-
-// Writes what waits where it is more than `most`, and answers how much waits then.
-fn write_past(most: usize, text: &[u8], waiting: usize) -> usize
-    ensures { λ r. ⌜ r ≤ most ⌝ }
-{
-    if waiting <= most {
-        return waiting;
-    }
-    io::write_all(STDOUT_FILENO, memory::part(text, 0, waiting));
-    0
-}
-
-// Writes the line of a refusal. Nothing waits behind it.
-pub fn refused(number: u32, block: usize, text: &mut [u8]) -> usize
-    ensures { λ r. ⌜ r ≡ 0 ⌝ }
-{
-    let line = day_reports::refused(text, 0, number, block as u64);
-    write_past(0, text, line)
-}
-
-// The first line, and a new bench.
-pub fn begun(base: u32, window: u32, text: &mut [u8]) -> Day
-    ensures { λ r. ⌜ opened r (now (text .exit)) ≡ opening base window (now (text .entry)) ⌝ }
-{
-    let made = Enet::new(base, window);
-    let device = made.device;
-    let waiting = day_reports::placed(text, 0, b"window", base, window as u64);
-    Day { device, waiting }
-}
+ghost use Rattle.showing.specs.Showing.{left, next, shown, shownOver};
+use day_lines::Day;
 
 // The event at a place, and its line.
 fn event(
@@ -62,7 +19,7 @@ fn event(
 {
     let found = event::at(events, place);
     let acted = playback::act(day.device, memory, output, events, found);
-    let waiting = write_past(MOST, text, day.waiting);
+    let waiting = day_lines::write_past(day_lines::MOST, text, day.waiting);
     let sent = memory::part(output, 0, acted.count);
     let end = day_reports::event(text, waiting, found, acted.number, sent);
     let device = acted.device;
@@ -100,15 +57,4 @@ pub fn all_lent(
 {
     let k = commands::within(lent, memory.len());
     all(begun, events, &mut memory[..k], output, text)
-}
-
-// Writes the last lines, with the memory that the check is of. Nothing waits behind them.
-pub fn ended(day: Day, memory: &[u8], text: &mut [u8]) -> usize
-    ensures { λ r. ⌜ r ≡ 0 ⌝ }
-{
-    let device = day.device;
-    let waiting = write_past(MOST, text, day.waiting);
-    let end = queries::state(device, text, waiting);
-    let end = peeking::check(device, memory, text, end);
-    write_past(0, text, end)
 }

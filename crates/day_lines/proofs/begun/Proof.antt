@@ -1,7 +1,7 @@
 use borrow.Author.Needs.{needs}
-use Rattle.showing.proofs.Laws.{opens}
-use Rattle.showing.proofs.begun.Statement.{statement}
-use Rattle.showing.proofs.begun.Tie as tie
+use Rattle.day_lines.proofs.Laws.{opens}
+use Rattle.day_lines.proofs.begun.Statement.{statement}
+use Rattle.day_lines.proofs.begun.Tie as tie
 
 pub begun-spec : {M : Type 1} → statement M
 begun-spec =
