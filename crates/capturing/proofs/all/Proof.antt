@@ -34,8 +34,12 @@ all-spec =
     (λ c κs. search needs)
     (λ c. (search going-begins, (omega arith, (refl, (refl, refl)))))
     (λ c κs. search needs)
-    (λ c. let r = going-room _ _ _ _ _ _ (c .before .before .before .before .before .before .before .before .before .before .before .loop .inv .0) in let few = c .before .before .before .before .before .before .before .before .before .before .before .loop .inv .1 .0 in omega arith)
-    (λ c. let r = going-room _ _ _ _ _ _ (c .before .before .before .before .before .before .before .before .before .before .before .loop .inv .0) in let f = c .before .before .before .before .before .before .before .before .before .before .before .loop .inv .0 .few in let few = c .before .before .before .before .before .before .before .before .before .before .before .loop .inv .1 .0 in omega arith)
+    (λ c.
+    let loop-at = c .before .before .before .before .before .before .before .before .before .before .before in
+    let r = going-room _ _ _ _ _ _ (loop-at .loop .inv .0) in let few = loop-at .loop .inv .1 .0 in omega arith)
+    (λ c.
+    let loop-at = c .before .before .before .before .before .before .before .before .before .before .before in
+    let r = going-room _ _ _ _ _ _ (loop-at .loop .inv .0) in let f = loop-at .loop .inv .0 .few in let few = loop-at .loop .inv .1 .0 in omega arith)
     (λ c κs. search needs)
     (λ c. let r = going-room _ _ _ _ _ _ (c .before .before .before .before .before .before .before .before .before .before .before .before .loop .inv .0) in omega arith)
     loop-again

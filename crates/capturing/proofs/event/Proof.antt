@@ -14,4 +14,10 @@ event-spec =
     (λ c. search needs)
     (λ c. search needs)
     (λ c. search needs)
-    (λ c. event-captured (c .before .before .before .before .before .before .before .before .before .before .before .before .before .before .before .before .before .before .before .before .args .day) _ _ _ _ _ _ _ _ _ _ _ _ _ (c .before .before .before .before .before .before .before .before .before .before .before .before .before .before .before .at .ensures) (c .before .before .before .before .before .before .before .before .before .before .before .before .act .ensures) (c .before .before .before .before .before .before .part .ensures) (c .before .before .before .keep-found .ensures)))
+    (λ c.
+    let keep-found-at = c .before .before .before in
+    let part-at = keep-found-at .before .before .before in
+    let act-at = part-at .before .before .before .before .before .before in
+    let at-at = act-at .before .before .before in
+    let start-at = at-at .before .before .before .before .before in
+    event-captured (start-at .args .day) _ _ _ _ _ _ _ _ _ _ _ _ _ (at-at .at .ensures) (act-at .act .ensures) (part-at .part .ensures) (keep-found-at .keep-found .ensures)))

@@ -24,9 +24,20 @@ first-wrong-spec =
     (λ c κs. search needs)
     (λ c κs. search needs)
     (λ c κs. search needs)
-    (λ c. testing-finds _ _ _ _ _ _ (c .before .before .before .before .before .loop .inv) (c .before .before .before .before .loop-test .taken) (c .before .before .before .part .ensures) (c .before .before .frame-of .ensures) (c .before .fault .ensures) (c .if1 .taken))
+    (λ c.
+    let frame-of-at = c .before .before in
+    let part-at = frame-of-at .before in
+    let test-at = part-at .before in
+    let loop-at = test-at .before in
+    testing-finds _ _ _ _ _ _ (loop-at .loop .inv) (test-at .loop-test .taken) (part-at .part .ensures) (frame-of-at .frame-of .ensures) (c .before .fault .ensures) (c .if1 .taken))
     (λ c. let r = testing-room _ _ _ (c .before .before .before .before .before .loop .inv) in omega arith)
     (λ c κs. search needs)
     (λ c. let r = testing-room _ _ _ (c .before .before .before .before .before .before .loop .inv) in omega arith)
-    (λ c. testing-on _ _ _ _ _ _ (c .before .before .before .before .before .before .loop .inv) (c .before .before .before .before .before .loop-test .taken) (c .before .before .before .before .part .ensures) (c .before .before .before .frame-of .ensures) (c .before .before .fault .ensures) _ (c .before .if1 .left) (c .size-at2 .ensures))
+    (λ c.
+    let fault-at = c .before .before in
+    let frame-of-at = fault-at .before in
+    let part-at = frame-of-at .before in
+    let test-at = part-at .before in
+    let loop-at = test-at .before in
+    testing-on _ _ _ _ _ _ (loop-at .loop .inv) (test-at .loop-test .taken) (part-at .part .ensures) (frame-of-at .frame-of .ensures) (fault-at .fault .ensures) _ (c .before .if1 .left) (c .size-at2 .ensures))
     (λ c. search testing-ends))

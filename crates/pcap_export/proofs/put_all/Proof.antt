@@ -24,9 +24,16 @@ put-all-spec =
     (λ c κs. search needs)
     (λ c. let r = putting-room _ _ _ _ _ (c .before .before .before .loop .inv) in let f = c .before .before .before .loop .inv .fits in let few = c .before .before .before .loop .inv .few in omega arith)
     (λ c κs. search needs)
-    (λ c. let r = putting-room _ _ _ _ _ (c .before .before .before .before .before .before .loop .inv) in let f = c .before .before .before .before .before .before .loop .inv .fits in let few = c .before .before .before .before .before .before .loop .inv .few in omega arith)
+    (λ c.
+    let loop-at = c .before .before .before .before .before .before in
+    let r = putting-room _ _ _ _ _ (loop-at .loop .inv) in let f = loop-at .loop .inv .fits in let few = loop-at .loop .inv .few in omega arith)
     (λ c κs. search needs)
     (λ c. let r = putting-room _ _ _ _ _ (c .before .before .before .before .before .before .before .loop .inv) in omega arith)
-    (λ c. putting-on _ _ _ _ _ _ _ _ (c .before .before .before .before .before .before .before .loop .inv) (c .before .before .before .before .before .before .loop-test .taken) (c .before .before .before .before .before .part .ensures) (c .before .before .before .put-entry .ensures) (c .size-at2 .ensures))
+    (λ c.
+    let put-entry-at = c .before .before .before in
+    let part-at = put-entry-at .before .before in
+    let test-at = part-at .before in
+    let loop-at = test-at .before in
+    putting-on _ _ _ _ _ _ _ _ (loop-at .loop .inv) (test-at .loop-test .taken) (part-at .part .ensures) (put-entry-at .put-entry .ensures) (c .size-at2 .ensures))
     (λ c. c .before .loop .inv .long)
     (λ c. search putting-ends))

@@ -17,11 +17,29 @@ look-spec =
     (λ c. search bad-record)
     (λ c κs. search needs)
     (λ c. search not-storable)
-    (λ c. let n = need _ 0 0 _ (c .before .before .before .before .before .before .before .before .header-fault .ensures) (c .before .before .before .before .before .before .before .if1 .left) _ _ (c .before .before .before .before .before .before .records-of .ensures) (c .before .before .before .before .before .walk .ensures) (c .before .before .before .if2 .left) in let few = n .1 in omega arith)
-    (λ c. let n = need _ 0 0 _ (c .before .before .before .before .before .before .before .before .header-fault .ensures) (c .before .before .before .before .before .before .before .if1 .left) _ _ (c .before .before .before .before .before .before .records-of .ensures) (c .before .before .before .before .before .walk .ensures) (c .before .before .before .if2 .left) in let few = n .1 in omega arith)
+    (λ c.
+    let test2-at = c .before .before .before in
+    let walk-at = test2-at .before .before in
+    let records-of-at = walk-at .before in
+    let test-at = records-of-at .before in
+    let header-fault-at = test-at .before in
+    let n = need _ 0 0 _ (header-fault-at .header-fault .ensures) (test-at .if1 .left) _ _ (records-of-at .records-of .ensures) (walk-at .walk .ensures) (test2-at .if2 .left) in let few = n .1 in omega arith)
+    (λ c.
+    let test2-at = c .before .before .before in
+    let walk-at = test2-at .before .before in
+    let records-of-at = walk-at .before in
+    let test-at = records-of-at .before in
+    let header-fault-at = test-at .before in
+    let n = need _ 0 0 _ (header-fault-at .header-fault .ensures) (test-at .if1 .left) _ _ (records-of-at .records-of .ensures) (walk-at .walk .ensures) (test2-at .if2 .left) in let few = n .1 in omega arith)
     (λ c κs. search needs)
     (λ c. search no-events)
-    (λ c. let n = need _ 0 0 _ (c .before .before .before .before .before .before .before .before .before .before .header-fault .ensures) (c .before .before .before .before .before .before .before .before .before .if1 .left) _ _ (c .before .before .before .before .before .before .before .before .records-of .ensures) (c .before .before .before .before .before .before .before .walk .ensures) (c .before .before .before .before .before .if2 .left) in let few = n .1 in omega arith)
+    (λ c.
+    let test2-at = c .before .before .before .before .before in
+    let walk-at = test2-at .before .before in
+    let records-of-at = walk-at .before in
+    let test-at = records-of-at .before in
+    let header-fault-at = test-at .before in
+    let n = need _ 0 0 _ (header-fault-at .header-fault .ensures) (test-at .if1 .left) _ _ (records-of-at .records-of .ensures) (walk-at .walk .ensures) (test2-at .if2 .left) in let few = n .1 in omega arith)
     (λ c κs. search needs)
     (λ c. search no-times)
     (λ c. search says))

@@ -24,13 +24,32 @@ put-all-spec =
     (λ c κs. search needs)
     (λ c κs. filling-fits _ _ _ _ _ _ _ _ _ (c .before .before .before .loop .inv) _ (c .before .part .ensures))
     (λ c κs. search needs)
-    (λ c. let r = filling-room _ _ _ _ _ _ _ _ _ (c .before .before .before .before .before .before .before .before .before .before .loop .inv) in let few = c .before .before .before .before .before .before .before .before .before .before .loop .inv .few in omega arith)
-    (λ c. let l = filling-least _ _ _ _ _ _ _ _ _ (c .before .before .before .before .before .before .before .before .before .before .loop .inv) (c .before .before .before .before .before .before .before .before .before .loop-test .taken) in omega arith)
-    (λ c. let r = filling-room _ _ _ _ _ _ _ _ _ (c .before .before .before .before .before .before .before .before .before .before .loop .inv) in let few = c .before .before .before .before .before .before .before .before .before .before .loop .inv .few in let b = c .before .before .before .before .before .before .before .before .before .before .loop .inv .before in let l = filling-least _ _ _ _ _ _ _ _ _ (c .before .before .before .before .before .before .before .before .before .before .loop .inv) (c .before .before .before .before .before .before .before .before .before .loop-test .taken) in omega arith)
-    (λ c. let r = filling-room _ _ _ _ _ _ _ _ _ (c .before .before .before .before .before .before .before .before .before .before .loop .inv) in let few = c .before .before .before .before .before .before .before .before .before .before .loop .inv .few in let h = c .before .before .before .before .before .before .before .before .before .before .loop .inv .half in let l = filling-least _ _ _ _ _ _ _ _ _ (c .before .before .before .before .before .before .before .before .before .before .loop .inv) (c .before .before .before .before .before .before .before .before .before .loop-test .taken) in omega arith)
+    (λ c.
+    let loop-at = c .before .before .before .before .before .before .before .before .before .before in
+    let r = filling-room _ _ _ _ _ _ _ _ _ (loop-at .loop .inv) in let few = loop-at .loop .inv .few in omega arith)
+    (λ c.
+    let test-at = c .before .before .before .before .before .before .before .before .before in
+    let loop-at = test-at .before in
+    let l = filling-least _ _ _ _ _ _ _ _ _ (loop-at .loop .inv) (test-at .loop-test .taken) in omega arith)
+    (λ c.
+    let test-at = c .before .before .before .before .before .before .before .before .before in
+    let loop-at = test-at .before in
+    let r = filling-room _ _ _ _ _ _ _ _ _ (loop-at .loop .inv) in let few = loop-at .loop .inv .few in let b = loop-at .loop .inv .before in let l = filling-least _ _ _ _ _ _ _ _ _ (loop-at .loop .inv) (test-at .loop-test .taken) in omega arith)
+    (λ c.
+    let test-at = c .before .before .before .before .before .before .before .before .before in
+    let loop-at = test-at .before in
+    let r = filling-room _ _ _ _ _ _ _ _ _ (loop-at .loop .inv) in let few = loop-at .loop .inv .few in let h = loop-at .loop .inv .half in let l = filling-least _ _ _ _ _ _ _ _ _ (loop-at .loop .inv) (test-at .loop-test .taken) in omega arith)
     (λ c κs. search needs)
-    (λ c. let r = filling-room _ _ _ _ _ _ _ _ _ (c .before .before .before .before .before .before .before .before .before .before .before .loop .inv) in let few = c .before .before .before .before .before .before .before .before .before .before .before .loop .inv .few in omega arith)
-    (λ c. filling-on _ _ _ _ _ _ _ _ _ (c .before .before .before .before .before .before .before .before .before .before .before .loop .inv) (c .before .before .before .before .before .before .before .before .before .before .loop-test .taken) _ _ _ _ (c .before .before .before .before .before .before .before .before .before .part .ensures) (c .before .before .before .before .before .before .before .put-event .ensures) (c .before .before .before .put-time .ensures) (c .size-at2 .ensures))
+    (λ c.
+    let loop-at = c .before .before .before .before .before .before .before .before .before .before .before in
+    let r = filling-room _ _ _ _ _ _ _ _ _ (loop-at .loop .inv) in let few = loop-at .loop .inv .few in omega arith)
+    (λ c.
+    let put-time-at = c .before .before .before in
+    let put-event-at = put-time-at .before .before .before .before in
+    let part-at = put-event-at .before .before in
+    let test-at = part-at .before in
+    let loop-at = test-at .before in
+    filling-on _ _ _ _ _ _ _ _ _ (loop-at .loop .inv) (test-at .loop-test .taken) _ _ _ _ (part-at .part .ensures) (put-event-at .put-event .ensures) (put-time-at .put-time .ensures) (c .size-at2 .ensures))
     (λ c. c .before .loop .inv .same-events)
     (λ c. c .before .loop .inv .same-times)
     (λ c. filling-ends _ _ _ _ _ _ _ _ _ (c .before .loop .inv) (c .loop-test .left)))

@@ -19,7 +19,18 @@ put-event-spec =
     (λ c. search needs)
     (λ c κs. search needs)
     (λ c. search needs)
-    (λ c. record { fits = check-place _ (c .before .before .before .before .before .before .before .before .before .before .before .before .before .before .before .before .args .item .now) _ (c .before .before .before .before .before .before .before .before .before .before .before .before .message-of .ensures) (c .before .before .before .before .before .before .before .before .before .before .before .before .before .before .before .before .pre) (omega arith) })
+    (λ c.
+    let message-of-at = c .before .before .before .before .before .before .before .before .before .before .before .before in
+    let start-at = message-of-at .before .before .before .before in
+    record { fits = check-place _ (start-at .args .item .now) _ (message-of-at .message-of .ensures) (start-at .pre) (omega arith) })
     (λ c κs. search needs)
     (λ c. search needs)
-    (λ c. event-put _ _ _ _ (c .before .before .before .before .before .before .before .before .before .before .before .before .before .before .before .before .before .before .before .args .item .now) _ _ _ _ (c .before .before .before .before .before .before .before .before .before .before .before .before .before .before .before .message-of .ensures) (c .before .before .before .before .before .before .before .before .before .before .before .before .before .before .check-number .ensures) (c .before .before .before .before .before .before .before .before .before .before .before .before .head .ensures) (c .before .before .before .before .before .before .before .before .before .before .store .ensures) (c .before .before .before .before .before .before .store2 .ensures) (c .before .before .store-word .ensures)))
+    (λ c.
+    let store-word-at = c .before .before in
+    let store2-at = store-word-at .before .before .before .before in
+    let store-at = store2-at .before .before .before .before in
+    let head-at = store-at .before .before in
+    let check-number-at = head-at .before .before in
+    let message-of-at = check-number-at .before in
+    let start-at = message-of-at .before .before .before .before in
+    event-put _ _ _ _ (start-at .args .item .now) _ _ _ _ (message-of-at .message-of .ensures) (check-number-at .check-number .ensures) (head-at .head .ensures) (store-at .store .ensures) (store2-at .store2 .ensures) (store-word-at .store-word .ensures)))
