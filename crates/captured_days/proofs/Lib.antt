@@ -1,1 +1,3 @@
 pub mod Days
+pub mod Exporting
+pub mod Right

@@ -1,2 +1,3 @@
 pub mod Captured
 pub mod Claims
+pub mod Exported

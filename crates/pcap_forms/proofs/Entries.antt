@@ -24,7 +24,7 @@ use Rattle.pcap_forms.proofs.Records.{Exportable, AllExportable}
 
 -- ---- the entries of a list of bytes that export does not refuse
 
-few-bytes : (f : List ℕ) → frameFault f ≡ 0 → length f ≤ 1518
+pub few-bytes : (f : List ℕ) → frameFault f ≡ 0 → length f ≤ 1518
 unfolding frameFault lengthAllowed
 few-bytes f e =
     let a = passed (not (lengthAllowed (length f))) 4 (if not (checkRight f) then 5 else 0) (omega arith) e in

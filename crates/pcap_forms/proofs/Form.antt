@@ -183,7 +183,7 @@ exportable-by (suc n) s b =
       exportable-by n (drop (recordSize s) s) (bytes-drop (recordSize s) s b) (e .1),
     )))
 
-room-enough : (cs : List Captured) (room : List ℕ) → AllExportable cs → length (captureBytes cs) ≤ length room → exportNumber (listBytes cs) (length room) ≡ 0
+pub room-enough : (cs : List Captured) (room : List ℕ) → AllExportable cs → length (captureBytes cs) ≤ length room → exportNumber (listBytes cs) (length room) ≡ 0
 unfolding exportNumber
 room-enough cs room a l =
     let r : firstWrong (entriesOf (listBytes cs)) ≡ 0 = rw (made-entries cs a) (made-right cs a) in
