@@ -1,6 +1,7 @@
 #!/usr/bin/env python3
 """Tests that the worked file of docs/CAPTURE.md is a capture of its one frame, what `import_capture` makes of it, what
-`export_capture` makes of a small day, and that the capture of examples/recorded-day.txt is what the page shows of it.
+`export_capture` makes of a small day, that the capture of examples/recorded-day.txt is what the page shows of it, and that its way
+to put the frames of a capture on a bench (tools/frame-lines) does so.
 
 The page's bytes are held against a file that is packed here. The trace that is made of it is taken apart by docs/TRACE.md, and the
 capture of the day, in which one frame is sent, two are delivered and one is lost, as tcpdump would read it. Each program has to
@@ -167,6 +168,20 @@ class Tests:
         times = ''.join(f'time 0 {time}\n' for time in times)
         self.expect('what import_capture says of the recorded day', said, f'imported {count}\n{times}')
 
+    def on_the_bench(self):
+        """The frames of a capture behind lines that set up a bench: the recipe of the page."""
+        lines = self.run(ROOT / 'tools' / 'frame-lines', 'again.trace')
+        self.expect('the lines of the frames', lines.splitlines(), [f'frame {closed(frame).hex()}' for _, _, frame in RECORDS])
+        # the set-up of the small day, up to its first grant
+        script = SCRIPT.split('# 3')[0] + lines
+        self.run(self.record, 'bench.trace', 'bench.memory', stdin=script, makes=['bench.trace', 'bench.memory'])
+        said = self.run(self.replay, 'bench.trace', 'bench.memory')
+        # one grant for three frames
+        self.expect('what the frames answer', said.splitlines()[4:7], ['frame 0', 'frame 8', 'frame 8'])
+        # events of the other kinds are passed over
+        lines = self.run(ROOT / 'tools' / 'frame-lines', 'day.trace')
+        self.expect('the lines of the day', lines.splitlines(), [f'frame {closed(frame).hex()}' for frame in [FIRST, LOST, SECOND]])
+
     def refusals(self):
         """What is refused makes no file and leaves an old one; `run` tests that."""
         (self.folder / 'cut.pcap').write_bytes(HEADER + struct.pack('<IIII', 0, 0, 61, 61) + FRAME)
@@ -257,6 +272,7 @@ def main(programs):
         tests.worked_file()
         tests.small_day()
         tests.recorded_day()
+        tests.on_the_bench()
         tests.refusals()
         print(f'capture: {tests.passed} passed, {tests.failed} failed')
         return 1 if tests.failed or not tests.passed else 0
