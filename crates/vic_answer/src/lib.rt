@@ -1,0 +1,73 @@
+// The IRQ answer of the two interrupt controllers.
+ghost use Prim.Native.Nat.{_/_, _%_};
+ghost use mathlib.Core.Path.{_≡_};
+ghost use Rattle.vic_answer.specs.Answer.{raisedIn, raisedRank, controllerAt, vectorAt, inputAt, irq};
+use vic_controller::Controller;
+use vic_pair::Inputs;
+use vic_pair::Vics;
+
+// The answer: the request's controller, 0 or 1, its input and its vector; or none.
+pub enum Interrupt {
+    None,
+    Request(usize, usize, u32),
+}
+
+// How many ranks a controller has.
+const RANKS: usize = 32;
+
+// The lowest rank raised in a controller, or how many it has.
+fn raised_in(c: Controller, inputs: u16) -> usize
+    ensures { λ r. ⌜ r ≡ raisedIn c inputs ⌝ }
+{
+    let controls = c.controls;
+    vic_rank::lowest_rank(&controls, c.irq_status(inputs))
+}
+
+// The lowest rank raised in the pair, or how many it has.
+pub fn raised_rank(vics: Vics, inputs: Inputs) -> usize
+    ensures { λ r. ⌜ r ≡ raisedRank vics inputs ⌝ }
+{
+    let first = raised_in(vics.vic0, inputs.vic0);
+    if first < RANKS {
+        return first;
+    }
+    RANKS + raised_in(vics.vic1, inputs.vic1)
+}
+
+// The vector of a rank of a controller.
+pub fn vector_at(c: Controller, place: usize) -> u32
+    ensures { λ r. ⌜ r ≡ vectorAt c place ⌝ }
+{
+    if place < 16 {
+        return c.address(place);
+    }
+    c.default
+}
+
+// The input of a rank of a controller.
+fn input_at(c: Controller, place: usize) -> usize
+    ensures { λ r. ⌜ r ≡ inputAt c place ⌝ }
+{
+    if place < 16 {
+        return (c.control(place) % 16) as usize;
+    }
+    place - 16
+}
+
+// The IRQ answer.
+pub fn irq(vics: Vics, inputs: Inputs) -> Interrupt
+    ensures { λ r. ⌜ r ≡ irq vics inputs ⌝ }
+{
+    let rank = raised_rank(vics, inputs);
+    let service = vics.service;
+    if vic_service::last_taken(&service) <= rank {
+        return Interrupt::None;
+    }
+    let place = rank % RANKS;
+    if rank < RANKS {
+        let c = vics.vic0;
+        return Interrupt::Request(0, input_at(c, place), vector_at(c, place));
+    }
+    let c = vics.vic1;
+    Interrupt::Request(1, input_at(c, place), vector_at(c, place))
+}

@@ -1,0 +1,2 @@
+pub mod Controller
+pub mod Access

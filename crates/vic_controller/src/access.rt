@@ -1,0 +1,127 @@
+// Which register stands at an offset, and what it reads as.
+ghost use mathlib.Core.Path.{_≡_};
+ghost use lib.ListN.{getD};
+ghost use Rattle.vic_controller.specs.Access.{slotAt, slotOf, registerAt, accessNumber, valueOf};
+use crate::Controller;
+use crate::Register;
+
+// The offset is that of a slot's register, where slot 0 has `first`.
+fn slot_at(first: u32, offset: u32) -> bool
+    ensures { λ r. ⌜ r ≡ slotAt first offset ⌝ }
+{
+    if offset < first {
+        return false;
+    }
+    if 64 <= offset - first {
+        return false;
+    }
+    offset % 4 == 0
+}
+
+// The slot of an offset, where slot 0 has `first`.
+fn slot_of(first: u32, offset: u32) -> usize
+    ensures { λ r. ⌜ r ≡ slotOf first offset ⌝ }
+{
+    if offset < first {
+        return 0;
+    }
+    ((offset - first) / 4) as usize
+}
+
+impl Register {
+    // The register at an offset.
+    pub fn at(offset: u32) -> Register
+        ensures { λ r. ⌜ r ≡ registerAt offset ⌝ }
+    {
+        if slot_at(Controller::VA0R, offset) {
+            return Register::Address(slot_of(Controller::VA0R, offset));
+        }
+        if slot_at(Controller::VC0R, offset) {
+            return Register::Control(slot_of(Controller::VC0R, offset));
+        }
+        match offset {
+            Controller::ISR => Register::IrqStatus,
+            Controller::FSR => Register::FiqStatus,
+            Controller::RINTSR => Register::RawStatus,
+            Controller::INTSR => Register::Selection,
+            Controller::INTER => Register::Enable,
+            Controller::INTECR => Register::EnableClear,
+            Controller::SWINTR => Register::Software,
+            Controller::SWINTCR => Register::SoftwareClear,
+            Controller::PER => Register::Protection,
+            Controller::DVAR => Register::DefaultVector,
+            _ => Register::Unmodelled,
+        }
+    }
+
+    // The refusal of an access, 2, or 0.
+    pub fn access_number(self) -> u32
+        ensures { λ n. ⌜ n ≡ accessNumber self ⌝ }
+    {
+        match self {
+            Register::IrqStatus => answer::DONE,
+            Register::FiqStatus => answer::DONE,
+            Register::RawStatus => answer::DONE,
+            Register::Selection => answer::DONE,
+            Register::Enable => answer::DONE,
+            Register::EnableClear => answer::DONE,
+            Register::Software => answer::DONE,
+            Register::SoftwareClear => answer::DONE,
+            Register::Protection => answer::DONE,
+            Register::DefaultVector => answer::DONE,
+            Register::Address(_) => answer::DONE,
+            Register::Control(_) => answer::DONE,
+            Register::Unmodelled => answer::REGISTER_NOT_MODELLED,
+        }
+    }
+}
+
+// A word of 16 bits, as one of 32.
+fn wide(v: u16) -> u32
+    ensures { λ r. ⌜ r ≡ v ⌝ }
+{
+    v as u32
+}
+
+impl Controller {
+    // The vector address of a slot; there is none past the last slot.
+    pub fn address(self, slot: usize) -> u32
+        ensures { λ v. ⌜ v ≡ getD (self .addresses) slot 0 ⌝ }
+    {
+        if 16 <= slot {
+            return 0;
+        }
+        self.addresses[slot]
+    }
+
+    // The vector control of a slot.
+    pub fn control(self, slot: usize) -> u32
+        ensures { λ v. ⌜ v ≡ getD (self .controls) slot 0 ⌝ }
+    {
+        if 16 <= slot {
+            return 0;
+        }
+        self.controls[slot] as u32
+    }
+
+    // What a register reads as, with the levels of the inputs.
+    pub fn value_of(self, inputs: u16, register: Register) -> u32
+        ensures { λ v. ⌜ v ≡ valueOf self inputs register ⌝ }
+    {
+        match register {
+            Register::IrqStatus => wide(self.irq_status(inputs)),
+            Register::FiqStatus => wide(self.fiq_status(inputs)),
+            Register::RawStatus => wide(self.raw_status(inputs)),
+            Register::Selection => wide(self.selection),
+            Register::Enable => wide(self.enable),
+            Register::EnableClear => 0,
+            Register::Software => wide(self.software),
+            Register::SoftwareClear => 0,
+            Register::Protection => if self.protection { 1 } else { 0 },
+            Register::DefaultVector => self.default,
+            Register::Address(slot) => self.address(slot),
+            Register::Control(slot) => self.control(slot),
+            Register::Unmodelled => 0,
+        }
+    }
+}
