@@ -1,7 +1,7 @@
-// The bench console. It reads calls from standard input until its end, one a line, and writes what crate console answers:
+// The bench console. It reads calls from standard input until its end, one a line, and writes what crate board answers:
 // docs/CONSOLE.md.
-use commands::Console;
-use commands::Told;
+use board::Board;
+use board::BoardTold;
 use lines::Input;
 
 // The greatest window, and eight bytes to lend too much.
@@ -36,24 +36,24 @@ fn written(input: Input, text: &[u8; TEXT], waiting: usize) -> usize {
 
 // Answers the line that a part of the input ended, where it ended one.
 fn answered(
-    console: Console,
+    board: Board,
     input: Input,
     waiting: usize,
     memory: &mut [u8; MEMORY],
     line: &[u8; lines::LINE],
     text: &mut [u8; TEXT],
-) -> Told {
+) -> BoardTold {
     if input.ended {
-        return console::answer(
-            console,
+        return board::answer(
+            board,
             memory,
             memory::part(line, 0, input.last),
             text,
             waiting,
         );
     }
-    Told {
-        console,
+    BoardTold {
+        board,
         end: waiting,
     }
 }
@@ -61,7 +61,7 @@ fn answered(
 // Answers each line of the input, and gives how much of the text waits to be written at its end. What comes before the
 // first part and after the last is left to the caller.
 fn answer_all(
-    mut told: Told,
+    mut told: BoardTold,
     mut input: Input,
     memory: &mut [u8; MEMORY],
     chunk: &mut [u8; lines::CHUNK],
@@ -72,7 +72,7 @@ fn answer_all(
         input = lines::take(input, chunk, line);
         let waiting = written(input, text, told.end);
         input = lines::more(input, chunk);
-        told = answered(told.console, input, waiting, memory, line, text);
+        told = answered(told.board, input, waiting, memory, line, text);
     }
     told.end
 }
@@ -82,8 +82,8 @@ fn main() {
     let mut chunk = [0u8; lines::CHUNK];
     let mut line = [0u8; lines::LINE];
     let mut text = [0u8; TEXT];
-    let told = Told {
-        console: console::reset(),
+    let told = BoardTold {
+        board: board::reset(),
         end: 0,
     };
     let input = lines::begin();

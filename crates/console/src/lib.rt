@@ -20,7 +20,7 @@ pub fn reset() -> Console
 }
 
 // One line more has ended.
-fn counted(mut console: Console) -> Console
+pub fn counted(mut console: Console) -> Console
     ensures { λ r. ⌜ r ≡ counted console ⌝ }
 {
     console.lines = std::num::wrapping_add_u64(console.lines, 1);

@@ -1,4 +1,5 @@
 -- The console's commands in two kinds: those that ask, and those that act. Assumes nothing.
+use mathlib.Core.Bool.{Bool, true, false}
 use Rattle.script.specs.declared.Command.{Command}
 use Rattle.script.specs.declared.Command.the-variants.{New, Lend, Read, Write, Line, Grant, Frame, Burst, Send, Run, Show, Ring, Poke, Peek, Check, State, Error}
 use Rattle.kinds.specs.declared.Kind.{Kind}
@@ -24,3 +25,23 @@ kindOf Peek = Asks query.Peek
 kindOf Check = Asks query.Check
 kindOf State = Asks query.State
 kindOf Error = Asks query.Error
+
+-- the command makes a new bench
+abbrev pub renews : Command → Bool
+renews New = true
+renews Lend = false
+renews Read = false
+renews Write = false
+renews Line = false
+renews Grant = false
+renews Frame = false
+renews Burst = false
+renews Send = false
+renews Run = false
+renews Show = false
+renews Ring = false
+renews Poke = false
+renews Peek = false
+renews Check = false
+renews State = false
+renews Error = false

@@ -1,6 +1,6 @@
 // The console's commands in two kinds: those that ask, and change nothing, and those that act.
 ghost use mathlib.Core.Path.{_≡_};
-ghost use Rattle.kinds.specs.Kinds.{kindOf};
+ghost use Rattle.kinds.specs.Kinds.{kindOf, renews};
 use script::Command;
 
 // The calls that change nothing.
@@ -55,5 +55,30 @@ pub fn kind_of(command: Command) -> Kind
         Command::Check => Kind::Asks(Query::Check),
         Command::State => Kind::Asks(Query::State),
         Command::Error => Kind::Asks(Query::Error),
+    }
+}
+
+// The command makes a new bench.
+pub fn renews(command: Command) -> bool
+    ensures { λ r. ⌜ r ≡ renews command ⌝ }
+{
+    match command {
+        Command::New => true,
+        Command::Lend => false,
+        Command::Read => false,
+        Command::Write => false,
+        Command::Line => false,
+        Command::Grant => false,
+        Command::Frame => false,
+        Command::Burst => false,
+        Command::Send => false,
+        Command::Run => false,
+        Command::Show => false,
+        Command::Ring => false,
+        Command::Poke => false,
+        Command::Peek => false,
+        Command::Check => false,
+        Command::State => false,
+        Command::Error => false,
     }
 }

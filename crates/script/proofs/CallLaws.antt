@@ -5,7 +5,6 @@ use mathlib.Core.List.{List}
 use Prim.Native.Nat.{ℕ, _≤_, _<_}
 use borrow.Author.Tests.{lt-ltb, le-ltb}
 use lib.ListN.{length}
-use Rattle.rules.specs.Choice.{if_then_else_}
 use Rattle.rules.proofs.Choices.{said-not}
 use Rattle.forms.specs.declared.numbers.Number.{Number}
 use Rattle.forms.specs.declared.numbers.Number.the-variants.{Is, Wrong}
@@ -38,15 +37,6 @@ module _ (command : Command) where
 
   pub given-two : (a a′ b b′ : Number) (r : Call) → r ≡ given command a b → a ≡ a′ → b ≡ b′ → r ≡ given command a′ b′
   given-two a a′ b b′ r h e k = rw (e, k) at h
-
--- ---- a name that was tested by a call, and is the one asked for or not
-
-module _ (s r : Bool) (x a b : Call) (is : r ≡ s) where
-  pub named : r ≡ true → x ≡ a → x ≡ (if s then a else b)
-  named t e = rw (← is, t) e
-
-  pub not-named : r ≡ false → x ≡ b → x ≡ (if s then a else b)
-  not-named t e = rw (← is, t) e
 
 -- ---- a line of three words or more
 

@@ -12,6 +12,7 @@ use Rattle.vic_rank.proofs.Laws.{lowest-within}
 use Rattle.vic_service.specs.Service.{lastTaken}
 use Rattle.vic_pair.specs.declared.Vics.{Vics}
 use Rattle.vic_pair.specs.declared.Inputs.{Inputs}
+use Rattle.vic_pair.specs.declared.Which.the-variants.{Vic0, Vic1}
 use Rattle.vic_answer.specs.declared.Interrupt.{Interrupt}
 use Rattle.vic_answer.specs.declared.Interrupt.the-variants.{None, Request}
 use Rattle.vic_answer.specs.Answer.{raisedIn, raisedRank, vectorAt, inputAt, irq}
@@ -54,11 +55,11 @@ module _ (v : Vics) (i : Inputs) (r l : ℕ) (e : r ≡ raisedRank v i) (f : l �
   irq-none h = rw (← e, ← f, le-ltb r l h)
 
   pub irq-first : (n a : ℕ) → r < l → r < 32 → n ≡ inputAt (v .vic0) (r % 32) → a ≡ vectorAt (v .vic0) (r % 32)
-      → Request 0 n a ≡ irq v i
+      → Request Vic0 n a ≡ irq v i
   unfolding irq
   irq-first n a h k g j = rw (← e, ← f, lt-ltb r l h, lt-ltb r 32 k, ← g, ← j)
 
   pub irq-second : (n a : ℕ) → r < l → 32 ≤ r → n ≡ inputAt (v .vic1) (r % 32) → a ≡ vectorAt (v .vic1) (r % 32)
-      → Request 1 n a ≡ irq v i
+      → Request Vic1 n a ≡ irq v i
   unfolding irq
   irq-second n a h k g j = rw (← e, ← f, lt-ltb r l h, le-ltb r 32 k, ← g, ← j)

@@ -9,6 +9,8 @@ use Rattle.vic_rank.specs.Rank.{lowestRank}
 use Rattle.vic_service.specs.Service.{lastTaken}
 use Rattle.vic_pair.specs.declared.Vics.{Vics}
 use Rattle.vic_pair.specs.declared.Inputs.{Inputs}
+use Rattle.vic_pair.specs.declared.Which.{Which}
+use Rattle.vic_pair.specs.declared.Which.the-variants.{Vic0, Vic1}
 use Rattle.vic_answer.specs.declared.Interrupt.{Interrupt}
 use Rattle.vic_answer.specs.declared.Interrupt.the-variants.{None, Request}
 
@@ -22,9 +24,9 @@ unfoldable pub raisedRank : Vics → Inputs → ℕ
 raisedRank v i =
     if ltb (raisedIn (v .vic0) (i .vic0)) 32 then raisedIn (v .vic0) (i .vic0) else 32 + raisedIn (v .vic1) (i .vic1)
 
--- the controller that a rank is of, by its number and by itself
-abbrev pub numberAt : ℕ → ℕ
-numberAt rank = if ltb rank 32 then 0 else 1
+-- the controller that a rank is of, by name and by itself
+abbrev pub whichAt : ℕ → Which
+whichAt rank = if ltb rank 32 then Vic0 else Vic1
 
 abbrev pub controllerAt : Vics → ℕ → Controller
 controllerAt v rank = if ltb rank 32 then v .vic0 else v .vic1
@@ -40,7 +42,7 @@ inputAt c place = if ltb place 16 then getD (c .controls) place 0 % 16 else plac
 -- the request of a rank: its controller, its input and its vector
 abbrev pub requestAt : Vics → ℕ → Interrupt
 requestAt v rank =
-    Request (numberAt rank) (inputAt (controllerAt v rank) (rank % 32)) (vectorAt (controllerAt v rank) (rank % 32))
+    Request (whichAt rank) (inputAt (controllerAt v rank) (rank % 32)) (vectorAt (controllerAt v rank) (rank % 32))
 
 -- "The IRQ answer is the highest raised, enabled IRQ request above those in service, or none exactly if there is none."
 unfoldable pub irq : Vics → Inputs → Interrupt

@@ -5,11 +5,12 @@ ghost use Rattle.vic_answer.specs.Answer.{raisedIn, raisedRank, controll
 use vic_controller::Controller;
 use vic_pair::Inputs;
 use vic_pair::Vics;
+use vic_pair::Which;
 
-// The answer: the request's controller, 0 or 1, its input and its vector; or none.
+// The answer: the request's controller, its input and its vector; or none.
 pub enum Interrupt {
     None,
-    Request(usize, usize, u32),
+    Request(Which, u32, u32),
 }
 
 // How many ranks a controller has.
@@ -45,11 +46,11 @@ pub fn vector_at(c: Controller, place: usize) -> u32
 }
 
 // The input of a rank of a controller.
-fn input_at(c: Controller, place: usize) -> usize
+fn input_at(c: Controller, place: u32) -> u32
     ensures { λ r. ⌜ r ≡ inputAt c place ⌝ }
 {
     if place < 16 {
-        return (c.control(place) % 16) as usize;
+        return c.control(place as usize) % 16;
     }
     place - 16
 }
@@ -66,8 +67,8 @@ pub fn irq(vics: Vics, inputs: Inputs) -> Interrupt
     let place = rank % RANKS;
     if rank < RANKS {
         let c = vics.vic0;
-        return Interrupt::Request(0, input_at(c, place), vector_at(c, place));
+        return Interrupt::Request(Which::Vic0, input_at(c, place as u32), vector_at(c, place));
     }
     let c = vics.vic1;
-    Interrupt::Request(1, input_at(c, place), vector_at(c, place))
+    Interrupt::Request(Which::Vic1, input_at(c, place as u32), vector_at(c, place))
 }

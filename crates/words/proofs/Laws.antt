@@ -9,6 +9,7 @@ use borrow.Author.Tests.{eq-eqb, eqb-true}
 use lib.ListN.{length, take, drop, drop-of-length-le, length-drop}
 use lib.Seq.{take-all, take-length, take-nil}
 use Rattle.bytes.specs.Bytes.{indexOf, slice}
+use Rattle.rules.specs.Choice.{if_then_else_}
 use Rattle.rules.proofs.Choices.{and-yes, and-parts}
 use Rattle.fcs.specs.Bytes.{same}
 use Rattle.words.specs.Words.{is, first, rest}
@@ -58,3 +59,12 @@ pub same-is : (a b : List ℕ) (r : Bool) → (r ≡ true → a ≡ b) → (a �
 unfolding is
 same-is a b true f g = rw (f refl) (sym (same-refl b))
 same-is a b false f g = not-true-is (same a b) (λ e. g (same-true a b e))
+
+-- ---- a name that was tested by a call, and is the one asked for or not
+
+module _ {A : Type 0} (s r : Bool) (x a b : A) (is : r ≡ s) where
+  pub named : r ≡ true → x ≡ a → x ≡ (if s then a else b)
+  named t e = rw (← is, t) e
+
+  pub not-named : r ≡ false → x ≡ b → x ≡ (if s then a else b)
+  not-named t e = rw (← is, t) e

@@ -1,6 +1,6 @@
 -- `script::alone` meets its contract. Assumes nothing.
 use borrow.Author.Needs.{needs}
-use Rattle.script.proofs.CallLaws.{named, not-named}
+use Rattle.words.proofs.Laws.{named, not-named}
 use Rattle.script.specs.Calls.{alone}
 use Rattle.script.proofs.alone.Statement.{statement}
 use Rattle.script.proofs.alone.Tie as tie

@@ -1,7 +1,8 @@
 -- `script::with_one` meets its contract. Assumes nothing.
 use borrow.Author.Needs.{needs}
 use Rattle.script.specs.Calls.{withOne}
-use Rattle.script.proofs.CallLaws.{named, not-named, given-one}
+use Rattle.words.proofs.Laws.{named, not-named}
+use Rattle.script.proofs.CallLaws.{given-one}
 use Rattle.script.proofs.with_one.Statement.{statement}
 use Rattle.script.proofs.with_one.Tie as tie
 

@@ -1,7 +1,8 @@
 -- `script::with_two` meets its contract. Assumes nothing.
 use borrow.Author.Needs.{needs}
 use Rattle.script.specs.Calls.{withTwo}
-use Rattle.script.proofs.CallLaws.{named, not-named, given-two}
+use Rattle.words.proofs.Laws.{named, not-named}
+use Rattle.script.proofs.CallLaws.{given-two}
 use Rattle.script.proofs.with_two.Statement.{statement}
 use Rattle.script.proofs.with_two.Tie as tie
 

@@ -8,6 +8,5 @@ input-at-spec =
     tie.close
     (tie.spec
     (λ c κs. search needs)
-    (λ c. search needs)
     (λ c. search input-of-slot)
     (λ c. search input-without))
