@@ -36,3 +36,4 @@ pub mod telling;
 pub mod trace;
 pub mod ungranted;
 pub mod verdict;
+pub mod vic;

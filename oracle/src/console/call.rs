@@ -1,6 +1,7 @@
 //! The calls that a console line can name.
 
 use super::burst::Burst;
+use super::interrupts::Interrupts;
 use super::parse::{decimal, hexadecimal};
 use super::MEMORY;
 use crate::hex;
@@ -29,6 +30,7 @@ pub enum Call {
     Peek { address: u32, length: u32 },
     Check,
     State,
+    Interrupts(Interrupts),
 }
 
 impl Call {
@@ -82,7 +84,7 @@ impl Call {
             },
             [b"check"] => Call::Check,
             [b"state"] => Call::State,
-            _ => return None,
+            ref words => Call::Interrupts(Interrupts::parse(words)?),
         })
     }
 }

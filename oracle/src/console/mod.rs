@@ -2,13 +2,16 @@
 
 mod burst;
 mod call;
+mod interrupts;
 mod parse;
 #[cfg(test)]
 mod tests;
 
 use crate::device::Bench;
+use crate::vic::{self, Levels};
 use crate::{check, hex};
 pub use call::Call;
+pub use interrupts::Interrupts;
 pub use parse::{decimal, hexadecimal};
 use std::ops::Range;
 
@@ -20,6 +23,9 @@ const LINE_MOST: usize = 4_096;
 
 pub struct Console {
     pub bench: Bench,
+    pub pair: vic::Pair,
+    /// The inputs of both controllers as they were last set.
+    inputs: Levels,
     pub memory: Vec<u8>,
     lent: usize,
     lines: usize,
@@ -35,6 +41,8 @@ impl Console {
     pub fn new() -> Console {
         Console {
             bench: Bench::new(0, 0).0,
+            pair: vic::Pair::default(),
+            inputs: Levels::default(),
             memory: vec![0; MEMORY],
             lent: 0,
             lines: 0,
@@ -44,6 +52,11 @@ impl Console {
     /// The memory as it is lent to the bench.
     pub fn lent(&self) -> &[u8] {
         &self.memory[..self.lent]
+    }
+
+    /// The inputs of both controllers as they stand: the bench's line is one of them.
+    pub fn levels(&self) -> Levels {
+        vic::with_ethernet(self.inputs, self.bench.line())
     }
 
     /// Takes one line without its line feed; gives the line written for it, if any.
@@ -65,6 +78,8 @@ impl Console {
                 let (bench, number) = Bench::new(base, length.into());
                 self.lent = bench.window.length as usize;
                 self.bench = bench;
+                self.pair = vic::Pair::default();
+                self.inputs = Levels::default();
                 self.memory.fill(0);
                 format!("new {number}")
             }
@@ -122,6 +137,10 @@ impl Console {
                 let [receive, send] = engines
                     .map(|engine| format!("{} {:08x}", u32::from(engine.running), engine.place));
                 format!("state {receive} {send}")
+            }
+            Call::Interrupts(call) => {
+                let levels = self.levels();
+                call.make(&mut self.pair, &mut self.inputs, levels)
             }
         }
     }

@@ -81,3 +81,15 @@ fn long_lines() {
     assert!(of(format!("# {digits}{digits}\nnew 0 64\nframe {digits}").as_bytes()).is_ok());
     assert_eq!(wrong(&format!("new 0 64\nframe {digits}00")), 2);
 }
+
+#[test]
+fn a_call_to_the_interrupt_controllers_cannot_be_recorded() {
+    for line in ["vread 0 30", "vwrite 0 10 1", "inputs 0 1", "irq", "fiq"] {
+        assert_eq!(wrong(line), 1);
+        assert_eq!(wrong(&format!("new 0 64\n{line}\n")), 2);
+        assert_eq!(
+            wrong(&format!("new 0 64\nwrite 4 1\n{line}\nwrite 4 1\n")),
+            3
+        );
+    }
+}

@@ -1,6 +1,7 @@
 //! The console's own rules; what the calls do is tested with the device.
 
 mod bursts;
+mod interrupts;
 
 use super::*;
 
