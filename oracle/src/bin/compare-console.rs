@@ -8,8 +8,10 @@ use oracle::tally::Tally;
 use std::path::Path;
 use std::process::ExitCode;
 
-/// Console lines in all, and in one run of the program.
+/// Console lines for the bench, those for the interrupt controllers beside it, and those in one run
+/// of the program.
 const CALLS: usize = 400_000;
+const INTERRUPT_CALLS: usize = 250_000;
 const CALLS_A_RUN: usize = 4_000;
 
 fn main() -> ExitCode {
@@ -45,22 +47,35 @@ fn arguments(words: &[String]) -> Option<(&str, usize, u64)> {
     Some((path, calls as usize, seed))
 }
 
-/// The scripts made by hand, then random ones joined to long ones until there are enough lines.
+/// The scripts made by hand, then random ones for the bench, and for the interrupt controllers by
+/// their share.
 fn batches(calls: usize, seed: u64) -> impl Iterator<Item = Script> {
+    let interrupt_calls = calls * INTERRUPT_CALLS / CALLS;
+    let bench = random_batches(calls, seed, scripts::random_script);
+    let interrupts = random_batches(interrupt_calls, seed, scripts::interrupts::random_script);
+    scripts::hand_made::scripts()
+        .into_iter()
+        .chain(bench)
+        .chain(interrupts)
+}
+
+/// Random scripts joined to long ones until there are enough lines.
+fn random_batches(
+    calls: usize,
+    seed: u64,
+    script: fn(&mut Random) -> Script,
+) -> impl Iterator<Item = Script> {
     let mut random = Random::new(seed);
     let mut made = 0;
-    let random_batches = std::iter::from_fn(move || {
+    std::iter::from_fn(move || {
         if made >= calls {
             return None;
         }
         let mut batch = Script::new();
         while batch.len() < CALLS_A_RUN {
-            batch.extend(scripts::random_script(&mut random));
+            batch.extend(script(&mut random));
         }
         made += batch.len();
         Some(batch)
-    });
-    scripts::hand_made::scripts()
-        .into_iter()
-        .chain(random_batches)
+    })
 }

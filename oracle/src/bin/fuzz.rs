@@ -8,8 +8,9 @@ use oracle::tally::Tally;
 use std::path::Path;
 use std::process::ExitCode;
 
-/// Scripts joined in one run of the program.
+/// Scripts joined in one run of the program: for the bench, and for the interrupt controllers.
 const SCRIPTS_A_RUN: usize = 20;
+const INTERRUPT_SCRIPTS_A_RUN: usize = 10;
 
 fn main() -> ExitCode {
     let words: Vec<String> = std::env::args().skip(1).collect();
@@ -23,9 +24,13 @@ fn main() -> ExitCode {
     let mut made = 0;
     for seed in runs::fresh_seeds(seconds) {
         let mut random = Random::new(seed);
-        let script: Script = (0..SCRIPTS_A_RUN)
-            .flat_map(|_| scripts::random_script(&mut random))
-            .collect();
+        let mut script = Script::new();
+        for _ in 0..SCRIPTS_A_RUN {
+            script.extend(scripts::random_script(&mut random));
+        }
+        for _ in 0..INTERRUPT_SCRIPTS_A_RUN {
+            script.extend(scripts::interrupts::random_script(&mut random));
+        }
         if let Some(found) = compare::difference(Path::new(path), &script, &mut tally) {
             print!("{}", compare::report(Path::new(path), &script, &found));
             println!("fuzz: differs at seed {seed}");

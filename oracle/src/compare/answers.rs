@@ -1,6 +1,6 @@
 //! Counts the answers that a comparison meets, and names those it must.
 
-use super::{bursts, hashes, polling, reasons};
+use super::{bursts, hashes, interrupts, polling, reasons};
 use crate::tally::Tally;
 use std::fmt;
 
@@ -8,8 +8,8 @@ use std::fmt;
 const LEAST: usize = 100;
 
 /// Calls whose answer is a number.
-const NUMBERED: [&str; 9] = [
-    "new", "read", "write", "grant", "frame", "burst", "send", "run", "show",
+const NUMBERED: [&str; 11] = [
+    "new", "read", "write", "grant", "frame", "burst", "send", "run", "show", "vread", "vwrite",
 ];
 
 /// Counts the answer to a line under its call and, if it is a number, under that.
@@ -22,7 +22,7 @@ pub fn count(tally: &mut Tally, line: &[u8], answer: &str) {
     if NUMBERED.contains(&call) {
         tally.met(number_name(result));
         tally.met(format!("{call} {result}"));
-    } else if ["ring", "line"].contains(&call) || result == "outside" {
+    } else if ["ring", "line", "fiq"].contains(&call) || ["outside", "none"].contains(&result) {
         tally.met(format!("{call} {result}"));
     } else {
         tally.met(call);
@@ -35,7 +35,7 @@ fn number_name(number: impl fmt::Display) -> String {
 }
 
 /// Answers that a whole comparison must have met, by call.
-const ANSWERS: [(&str, &[u32]); 9] = [
+const ANSWERS: [(&str, &[u32]); 11] = [
     ("new", &[0, 1]),
     ("read", &[0, 2]),
     ("write", &[0, 2, 15]),
@@ -45,12 +45,15 @@ const ANSWERS: [(&str, &[u32]); 9] = [
     ("send", &[0, 3, 7, 8, 9, 11, 12]),
     ("run", &[0, 3, 7, 8, 9, 10, 11, 12]),
     ("show", &[0, 11, 13]),
+    ("vread", &[0, 2]),
+    ("vwrite", &[0, 2]),
 ];
 
 /// Names every answer there is, so that one never met is seen.
 pub fn expect(tally: &mut Tally) {
     bursts::expect(tally);
     hashes::expect(tally);
+    interrupts::expect(tally);
     polling::expect(tally);
     reasons::expect(tally);
     for number in 0..=16 {
@@ -71,6 +74,11 @@ pub fn expect(tally: &mut Tally) {
         "peek outside",
         "check",
         "state",
+        "inputs",
+        "irq",
+        "irq none",
+        "fiq 0",
+        "fiq 1",
     ] {
         tally.expect(other);
     }
@@ -79,6 +87,7 @@ pub fn expect(tally: &mut Tally) {
 /// How often a kind must be met in a whole comparison.
 pub fn least(kind: &str) -> usize {
     let asked = hashes::least(kind)
+        .or_else(|| interrupts::least(kind))
         .or_else(|| polling::least(kind))
         .or_else(|| reasons::least(kind));
     match asked {

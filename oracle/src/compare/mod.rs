@@ -4,6 +4,7 @@ pub mod answers;
 mod bursts;
 mod came;
 mod hashes;
+mod interrupts;
 mod polling;
 mod reasons;
 mod shorten;
@@ -52,6 +53,7 @@ pub fn difference(program: &Path, script: &Script, tally: &mut Tally) -> Option<
     let mut console = Console::new();
     let mut watch = polling::Watch::default();
     let mut reasons = reasons::Watch::default();
+    let mut interrupts = interrupts::Watch::default();
     for (place, line) in script.iter().enumerate() {
         reasons.before(line, &console);
         let Some(wanted) = console.take(line) else {
@@ -61,6 +63,7 @@ pub fn difference(program: &Path, script: &Script, tally: &mut Tally) -> Option<
         hashes::count(tally, line, &wanted, &console.bench.filter());
         watch.count(tally, line, &wanted, &console);
         reasons.count(tally, line, &wanted, &console);
+        interrupts.count(tally, line, &wanted, &console);
         let got = written.next().unwrap_or(b"");
         if got != format!("{wanted}\n").as_bytes() {
             let got = match got {

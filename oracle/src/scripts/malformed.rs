@@ -1,7 +1,7 @@
 //! Lines that are no calls, between calls.
 
-use super::malformed_bursts;
 use super::writer::Writer;
+use super::{interrupts, malformed_bursts};
 use crate::random::Random;
 
 /// One good line of each form.
@@ -79,6 +79,9 @@ pub fn lines(writer: &mut Writer) {
 pub fn line(random: &mut Random) -> Vec<u8> {
     if random.once_in(6) {
         return malformed_bursts::line(random).into_bytes();
+    }
+    if random.once_in(10) {
+        return interrupts::malformed_line(random);
     }
     let good = random.pick(&GOOD).to_string();
     let mut words: Vec<&str> = good.split(' ').collect();

@@ -8,6 +8,7 @@ mod damage;
 pub mod days;
 mod filters;
 pub mod hand_made;
+pub mod interrupts;
 mod layout;
 mod malformed;
 mod malformed_bursts;

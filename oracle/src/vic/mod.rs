@@ -14,7 +14,7 @@ mod tests;
 pub use answer::Request;
 pub use controller::Controller;
 pub use inputs::{with_ethernet, Levels, ETHERNET};
-pub use rank::Rank;
+pub use rank::{Place, Rank};
 
 /// Inputs of a controller, and its slots: as many vector addresses and vector controls.
 pub const INPUTS: usize = 16;

@@ -2,6 +2,7 @@
 
 mod bursts;
 mod hashes;
+mod interrupts;
 mod polling;
 mod reasons;
 
@@ -56,6 +57,16 @@ pub fn scripts() -> Vec<Script> {
         polling::rings(),
         reasons::alone(),
         reasons::in_a_burst(),
+        interrupts::before_any_new(),
+        interrupts::registers(),
+        interrupts::ranks(),
+        interrupts::slots(),
+        interrupts::all_ranks(),
+        interrupts::ends(),
+        interrupts::changed_while_served(),
+        interrupts::statuses(),
+        interrupts::ethernet(),
+        interrupts::forms(),
     ];
     texts
         .iter()
