@@ -9,7 +9,7 @@ const LEAST: usize = 100;
 
 const ACCESSES: [&str; 2] = ["read", "written"];
 
-/// Two offsets that a look at whole words, or at the low bits alone, would take for a register.
+/// Where an offset can be at which there is no register.
 const ODD: &str = "no multiple of 4";
 const FAR: &str = "past 23Ch";
 const GAP: &str = "between registers";

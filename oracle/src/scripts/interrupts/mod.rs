@@ -47,7 +47,7 @@ pub fn random_script(random: &mut Random) -> Script {
 #[cfg(test)]
 mod tests {
     use super::*;
-    use crate::console::Console;
+    use crate::console::{Call, Console};
 
     /// The deepest nesting that scripts of a kind come to.
     fn deepest(kind: fn(&mut Writer), seeds: std::ops::Range<u64>) -> Vec<usize> {
@@ -82,6 +82,30 @@ mod tests {
         let lines = (0..1_000).map(|_| malformed_line(&mut random));
         let calls = lines.filter(|line| crate::console::call(line).is_some());
         assert!((100..500).contains(&calls.count()));
+    }
+
+    #[test]
+    fn neither_changes_the_other() {
+        let mut random = Random::new(8);
+        let mut console = Console::new();
+        for line in (0..100).flat_map(|_| random_script(&mut random)) {
+            let (bench, pair) = (console.bench.clone(), console.pair.clone());
+            let memory = console.memory.clone();
+            match crate::console::call(&line) {
+                Some(Call::New { .. }) => {
+                    console.take(&line);
+                }
+                Some(Call::Interrupts(_)) => {
+                    console.take(&line);
+                    assert_eq!(console.bench, bench);
+                    assert!(console.memory == memory);
+                }
+                _ => {
+                    console.take(&line);
+                    assert_eq!(console.pair, pair);
+                }
+            }
+        }
     }
 
     #[test]

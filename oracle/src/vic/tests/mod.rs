@@ -1,5 +1,6 @@
 //! Examples worked out by hand from chapter 4 and the rules for it.
 
+mod claims;
 mod ends;
 mod fiq;
 mod inputs;

@@ -149,13 +149,13 @@ impl Model {
         let place = match self.slip {
             Some(Slip::FirstTakenEnds) => last.map(|_| 0),
             Some(Slip::ListForEach) => self.last_of(controller),
-            Some(Slip::Vic0VarEndsAll) if controller == 1 => None,
+            Some(Slip::Vic0VarEndsEither) if controller == 1 => None,
             _ => last,
         };
         let Some(place) = place else {
             return;
         };
-        let either = matches!(self.slip, Some(Slip::AnyVarEnds | Slip::Vic0VarEndsAll));
+        let either = matches!(self.slip, Some(Slip::AnyVarEnds | Slip::Vic0VarEndsEither));
         if self.service[place].stand.controller != controller && !either {
             return;
         }

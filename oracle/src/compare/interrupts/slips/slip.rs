@@ -62,7 +62,7 @@ slips! {
     FirstTakenEnds "the first taken is ended",
     AllEnd "all in service are ended",
     AnyVarEnds "a write of either VAR ends the last taken",
-    Vic0VarEndsAll "only a write of VIC0_VAR ends, from either",
+    Vic0VarEndsEither "a write of VIC0_VAR ends from either, of VIC1_VAR nothing",
     // Vectors.
     DefaultOfVic0 "VIC0's default for VIC1's requests",
     DefaultAlways "the default for requests with a slot",

@@ -86,7 +86,7 @@ const TOLD: [(Slip, &str); 59] = [
         "E;inputs 0 2;vread 0 30;vwrite 1 30 0;irq",
     ),
     (
-        Slip::Vic0VarEndsAll,
+        Slip::Vic0VarEndsEither,
         "E;inputs 1 2;vread 0 30;vwrite 1 30 0;irq",
     ),
     (
