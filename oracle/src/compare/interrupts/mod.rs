@@ -37,9 +37,7 @@ pub fn expect(tally: &mut Tally) {
 /// How often a kind must be met in a whole comparison, if it is one of the controllers.
 pub fn least(kind: &str) -> Option<usize> {
     let found = names().find(|(name, _)| name == kind);
-    found
-        .map(|(_, least)| least)
-        .or_else(|| service::is_depth(kind).then_some(1))
+    found.map(|(_, least)| least)
 }
 
 /// Follows the controllers through a script.

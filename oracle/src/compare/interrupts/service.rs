@@ -4,6 +4,7 @@ use crate::console::Interrupts;
 use crate::tally::Tally;
 use crate::vic::registers::Register;
 use crate::vic::{Levels, Pair, Rank, Request, ETHERNET};
+use std::ops::RangeInclusive;
 
 /// How often each source must be answered and taken in a whole comparison.
 const SOURCE_LEAST: usize = 1_000;
@@ -50,14 +51,23 @@ fn read_name(last: &str) -> String {
     format!("VIC1_VAR read, {last}")
 }
 
-/// Depth 1 is one that interrupts no other.
-fn depth_name(depth: usize) -> String {
-    format!("interrupt taken at depth {depth:>2}")
-}
+/// Nestings by their depths, 1 being one that interrupts no other, and how often each must be met:
+/// the deepest, with every rank in service, is made by hand.
+const DEPTHS: [(RangeInclusive<usize>, usize); 9] = [
+    (1..=1, 100),
+    (2..=2, 100),
+    (3..=3, 100),
+    (4..=4, 100),
+    (5..=8, LEAST),
+    (9..=16, LEAST),
+    (17..=32, 1),
+    (33..=63, 1),
+    (64..=64, 1),
+];
 
-/// Whether a kind is a depth: the deepest may be met once.
-pub fn is_depth(kind: &str) -> bool {
-    kind.starts_with("interrupt taken at depth ")
+fn depths_name(depths: &RangeInclusive<usize>) -> String {
+    let (first, last) = (depths.start(), depths.end());
+    format!("interrupt taken at depth {first:>2} to {last:>2}")
 }
 
 pub fn names() -> impl Iterator<Item = (String, usize)> {
@@ -79,7 +89,12 @@ pub fn names() -> impl Iterator<Item = (String, usize)> {
         ALL_MASKED,
     ];
     let others = others.map(String::from).into_iter().chain(by_last);
-    sources.chain(others.map(|name| (name, LEAST)))
+    let depths = DEPTHS
+        .into_iter()
+        .map(|(depths, least)| (depths_name(&depths), least));
+    sources
+        .chain(others.map(|name| (name, LEAST)))
+        .chain(depths)
 }
 
 /// Counts a call to controllers that were so before it, with their inputs at these levels.
@@ -128,7 +143,10 @@ fn taken(tally: &mut Tally, pair: &Pair, levels: Levels) {
     };
     let depth = pair.service.len() + 1;
     tally.met(taken_name(source(request.rank)));
-    tally.met(depth_name(depth));
+    let depths = DEPTHS.iter().find(|(depths, _)| depths.contains(&depth));
+    if let Some((depths, _)) = depths {
+        tally.met(depths_name(depths));
+    }
     if depth >= DEEP {
         tally.met(DEEP_TAKEN);
     }

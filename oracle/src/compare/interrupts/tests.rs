@@ -57,8 +57,8 @@ fn takes_by_source_and_depth() {
         ("interrupt taken, VIC0 by slot", 1),
         ("interrupt taken, the bench's line", 1),
         ("interrupt taken, a software interrupt alone", 1),
-        ("interrupt taken at depth  1", 1),
-        ("interrupt taken at depth  4", 1),
+        ("interrupt taken at depth  1 to  1", 1),
+        ("interrupt taken at depth  4 to  4", 1),
         ("interrupt taken, five deep or deeper", 0),
         ("VIC1_VAR read, the last taken from VIC1", 1),
         ("VIC1_VAR read, the last taken from VIC0", 1),
@@ -80,7 +80,7 @@ fn the_fifth_is_deep() {
     script += "new 0 64\nvwrite 0 10 ffff\ninputs 0 1\nvread 0 30\n";
     let tally = counted(&script);
     assert_eq!(tally.count("interrupt taken, five deep or deeper"), 2);
-    assert_eq!(tally.count("interrupt taken at depth  1"), 2);
+    assert_eq!(tally.count("interrupt taken at depth  1 to  1"), 2);
 }
 
 #[test]
