@@ -1,7 +1,7 @@
 #!/usr/bin/env python3
 """Tests the report on short scripts with answers written by hand, and on the sample day as the console answers it.
 
-What the sample day has to come to is worked out by hand from documents 01 and 02, not taken from the console.
+What the sample days have to come to is worked out by hand from documents 01 and 02, not taken from the console.
 
 Usage: report.py PROGRAM   (the bench console)
 """
@@ -15,10 +15,12 @@ import tempfile
 import xml.etree.ElementTree as ElementTree
 import zlib
 
+import interrupts
 import polling
 
 ROOT = pathlib.Path(__file__).resolve().parent.parent
 REPORT, DAY = ROOT / 'tools' / 'report', ROOT / 'examples' / 'day.txt'
+INTERRUPTS = ROOT / 'examples' / 'interrupts.txt'
 STATION, BROADCAST = bytes.fromhex('020000000001'), b'\xff' * 6
 # the group whose bit the firmware sets on the sample day; no frame comes to it but in hash mode
 GROUP = bytes.fromhex('030000000001')
@@ -27,20 +29,20 @@ SVG = '{http://www.w3.org/2000/svg}'
 # ---- the sample day, by hand
 
 # answers to the grants and to the frames, in the script's order
-GRANTS = [0, 0, 0, 14, 13, 0, 0, 0, 0, 0, 0, 0, 0, 0, 0, 0, 0, 0]
-FRAMES = [8, 0, 0, 6, 6, 5, 4, 0, 0, 0, 0, 0, 8, 0, 0, 6, 0, 0, 8, 3, 0, 0, 8, 0, 11]
+GRANTS = [0, 0, 0, 14, 13, 0, 0, 0, 0, 0, 0, 0, 0, 0, 0, 0, 0, 0, 0]
+FRAMES = [8, 0, 0, 6, 6, 5, 4, 0, 0, 0, 0, 0, 8, 0, 0, 6, 0, 0, 8, 3, 0, 0, 8, 0, 0, 11]
 # the frames that come with receive-all set
 TO_ALL = (16, 17)
 # the burst's number, then the answer to each of its pairs, and what the picture shows of them
 BURST = [0, 0, 0, 16, 8]
 BURST_MARKS = ['delivered', 'delivered', 'refused', 'lost']
 # the ring's fill: three grants, three frames, four grants, four frames, one grant, one frame, two grants, two frames of
-# the burst, one grant and one frame of the group, two grants and two frames with receive-all, and three of one grant and
-# one frame each in the passages about polling
-FILL = [0, 1, 2, 3, 2, 1, 0, 1, 2, 3, 4, 3, 2, 1, 0, 1, 0, 1, 2, 1, 0, 1, 0, 1, 2, 1, 0, 1, 0, 1, 0, 1, 0]
+# the burst, one grant and one frame of the group, two grants and two frames with receive-all, three of one grant and one
+# frame each in the passages about polling, and one more in that about interrupts
+FILL = [0, 1, 2, 3, 2, 1, 0, 1, 2, 3, 4, 3, 2, 1, 0, 1, 0, 1, 2, 1, 0, 1, 0, 1, 2, 1, 0, 1, 0, 1, 0, 1, 0, 1, 0]
 # why each delivered frame was taken: the broadcast, results for the station up to the two of the burst, the group's, two with
-# receive-all, and three more results
-REASONS = ['broadcast', *['own address'] * 9, 'group', 'receive-all', 'receive-all', *['own address'] * 3]
+# receive-all, and four more results
+REASONS = ['broadcast', *['own address'] * 9, 'group', 'receive-all', 'receive-all', *['own address'] * 4]
 # the packet status words that are looked at: 95 and 64 bytes, broadcast bit 28, multicast bit 27
 STATUSES = [
     '5f000010: packet status of descriptor 1 of the ring, returned, length 95, broadcast',
@@ -51,15 +53,15 @@ STATUSES = [
 ]
 # the broadcast has 14 + 77 + 4 bytes, each result 64; the sends have 64, 64 and 66 + 4
 TOTALS = [
-    'calls 160',
-    'grants made 16',
+    'calls 181',
+    'grants made 17',
     'grants refused 2',
     '13 1 descriptor not at a multiple of 4 or not all in the window',
     '14 1 descriptor already granted',
     'bursts made 1 4 pairs, 1 outside the store',
     'bursts refused 0',
-    'frames delivered 16 1086 bytes',
-    'own address 12',
+    'frames delivered 17 1150 bytes',
+    'own address 13',
     'broadcast 1',
     'group 1',
     'receive-all 2',
@@ -71,11 +73,18 @@ TOTALS = [
     '6 3 address not for this station',
     "11 1 lent memory not of the window's length",
     'frames sent 3 198 bytes',
+    'interrupts taken 2',
+    '1 VIC0.11 (ENET)',
+    '1 VIC1.0 (UART0)',
+    'interrupts ended 2',
+    'still in service 0',
+    'deepest nesting 2',
+    'nothing taken 0 VIC0_VAR read without an answer',
 ]
 # seven frames are refused, and one pair is outside
-MARKS = {'grants': 16, 'delivered': 16, 'lost': 5, 'refused': 8, 'sent': 2}
+MARKS = {'grants': 17, 'delivered': 17, 'lost': 5, 'refused': 8, 'sent': 2, 'taken': 2, 'ended': 2}
 SHOWN = ['1042;41,7', '1043;0,185', '1045;41,700', '1044;38,25', '1046;40,05', '1047;39,9', '1048;42,125', '2017;37,6',
-         '3108;40,25', '5012;39,4', '7015;38,1', '7016;36,8', '7017;37,45']
+         '3108;40,25', '5012;39,4', '7015;38,1', '7016;36,8', '7017;37,45', '8021;40,6']
 # what the day says of the hash: the write of its mode and of its bit, the frames of the two groups, the mode set back
 HASHED = [
     'write 400 0002000c -> 0 done: MCR (MAC control): AFM=1, TE, RE; receive-all off, multicast by hash',
@@ -109,6 +118,14 @@ POLLED = [
     'sending starts at 20002020, polling off',
     'polling is off for this place, by TXNDAR: sending stops',
     'sending is stopped since line 242',
+]
+# what it says of interrupts: those that are taken and ended, and what is looked at between
+INTERRUPTED = [
+    "taken: VIC1.0 (UART0) without a slot, by VIC1's default vector",
+    'by slot 0, above VIC1.0 (UART0) in service',
+    'taken: VIC0.11 (ENET) by slot 0, over VIC1.0 (UART0)',
+    'ended: VIC0.11 (ENET); in service again: VIC1.0 (UART0)',
+    'ended: VIC1.0 (UART0); nothing in service',
 ]
 
 # ---- short scripts: each line with its answer, and what the report has to say of it
@@ -393,6 +410,64 @@ class Tests:
             given = calls(text).get(5, [''])[1:]
             self.expect(f'behind {line}, {answer}', given == [polling.looks_again('RXNDAR')] * known, text)
 
+    def interrupts(self, program):
+        """Interrupts taken and ended are told under each call and counted, and what is not; the answers are the console's."""
+        for name, lines in [*interrupts.DAYS.items(), ("ENET's line in doubt", interrupts.DOUBT + interrupts.DOUBT_TWICE)]:
+            script, output = interrupts.texts(lines)
+            done = subprocess.run([program], input=script.encode(), capture_output=True, timeout=60)
+            self.expect(f'{name}: answers of the console', done.stdout.decode() == output, done.stdout)
+        picture = self.folder / 'interrupts.svg'
+        for name, lines in interrupts.DAYS.items():
+            status, text = self.report(*interrupts.texts(lines), '--svg', picture)
+            self.expect(name, status == 0, text)
+            self.told_under(name, lines, text)
+            # the sign of one that is taken or ended has no number, also where there is room for it
+            wanted = [(words[:5], at, '') for at, (_, _, *under) in enumerate(lines, 1)
+                      for words in under if re.match('taken:|ended:', words)]
+            given = [(sign.kind, sign.line, sign.number) for sign in signs(ElementTree.parse(picture).getroot())]
+            self.expect(f'{name}: signs', [sign for sign in given if sign[0] in ('taken', 'ended')] == wanted and
+                        all(kind in ('taken', 'ended', 'delivered') for kind, _, _ in given), given)
+            for wanted in interrupts.TOTALS.get(name, []):
+                self.expect(f'{name}: {wanted}', wanted in rows(text), text)
+        status, text = self.report(*interrupts.texts(interrupts.WORDS))
+        self.expect('lines about interrupts', status == 0, text)
+        for at, (line, answer, wanted) in enumerate(interrupts.WORDS, 1):
+            given = calls(text).get(at, [''])
+            self.expect(f'{line}, {answer}', given[0].endswith(wanted), given)
+            if line in interrupts.NOT_KNOWN:
+                self.expect(f'under {line}', given[1:] == [interrupts.NOT_KNOWN[line]], given)
+        for wanted in ['interrupts taken 0', 'interrupts ended 0', 'still in service 0 not known',
+                       'not known 1 VIC0_VAR read, may have taken an interrupt']:
+            self.expect(f'lines about interrupts: {wanted}', wanted in rows(text), text)
+
+    def told_under(self, name, lines, text):
+        """Under each line stands what is wanted there, and nothing else."""
+        told = calls(text)
+        for at, (line, answer, *wanted) in enumerate(lines, 1):
+            given = told.get(at, ['', 'not told'])[1:]
+            self.expect(f'{name}, line {at}: {line[:40]}, {answer[:40]}', given == wanted, given)
+
+    def wrong_interrupts(self):
+        """An answer that the rules do not allow is one fault, and behind it nothing is claimed; where ENET's line is in doubt,
+        what either level allows is none."""
+        days = [interrupts.texts([*before, wrong, *interrupts.ANYTHING]) for _, before, wrong, _ in interrupts.WRONG]
+        for (name, before, wrong, wanted), said in zip(interrupts.WRONG, self.told(days)):
+            faults = [at for at, words in enumerate(said) if not words or words.startswith('FAULT ')]
+            self.expect(name, faults == [len(before)] and f'FAULT "{wrong[0]}": ' in said[len(before)]
+                        and wanted in said[len(before)], said[len(before):])
+        days = [interrupts.texts([*interrupts.DOUBT, *behind]) for behind, _ in interrupts.UNSURE.values()]
+        for (name, (behind, wrong)), said in zip(interrupts.UNSURE.items(), self.told_rows(days)):
+            given = said[len(interrupts.DOUBT):]
+            self.expect(f'in doubt: {name}: the last', given[-1][0].startswith('FAULT ') == wrong, given)
+            for (line, answer, *wanted), (words, *under) in zip(behind[:len(behind) - wrong], given):
+                self.expect(f'in doubt: {name}: {line}, {answer}', words.startswith(f'{line.split()[0]} ') and under == wanted, (words, under))
+        for name, before, faults in interrupts.SILENT:
+            status, text = self.report(*interrupts.texts([*before, *interrupts.ANYTHING]))
+            self.expect(f'silent {name}', text.count('FAULT') == faults and status == bool(faults), text)
+        status, text = self.report(*interrupts.texts([*interrupts.NOT_TAKEN, interrupts.irq('0 11 0000a000')]))
+        self.expect('known behind a line that was not taken',
+                    text.count('FAULT') == 2 and ', yet by the calls before' in text, text)
+
     def headings(self):
         """Comments are headings, whatever they hold; those with calls are numbered."""
         picture = self.folder / 'headings.svg'
@@ -439,14 +514,20 @@ class Tests:
         given = re.findall(r', to (.*), 88B5', text)
         self.expect('bits of the hash', status == 0 and given == wanted, text)
 
-    def told(self, days):
-        """What one report says of the lines of several days, each of which begins with a new bench; faults as such."""
+    def told_rows(self, days):
+        """What one report says of the lines of several days, each of which begins with a new bench: the rows of each, a fault
+        as one."""
         script, output = (''.join(parts) for parts in zip(*days))
         _, text = self.report(script, output)
-        said = {at: ' '.join(lines) for at, lines in calls(text).items()}
-        said |= {int(at): f'FAULT {words}' for at, words in re.findall(r'^FAULT  line (\d+), answer to (.*)$', text, re.MULTILINE)}
+        said = calls(text)
+        faults = re.findall(r'^FAULT  line (\d+), answer to (.*)$', text, re.MULTILINE)
+        said |= {int(at): [f'FAULT {words}'] for at, words in faults}
         lines = iter(range(1, script.count('\n') + 1))
-        return [[said.get(next(lines), '') for _ in script.splitlines()] for script, _ in days]
+        return [[said.get(next(lines), ['']) for _ in script.splitlines()] for script, _ in days]
+
+    def told(self, days):
+        """The same, the rows of each line as one."""
+        return [[' '.join(lines) for lines in said] for said in self.told_rows(days)]
 
     def reasons(self):
         """The reason of a delivered frame is told, of a pair too, and an answer that the registers do not allow is a fault."""
@@ -508,13 +589,23 @@ class Tests:
                         said[-1] == f'peek c 4 -> {word}: packet status of the descriptor at 00000000, {wanted}', said)
 
     def faults(self):
-        for name, script, output, wanted in FAULTS + polling.FAULTS:
+        for name, script, output, wanted in FAULTS + polling.FAULTS + interrupts.FAULTS:
             status, text = self.report(script, output, '--svg', self.folder / 'fault.svg')
             self.expect(name, status == 1 and wanted in text and 'not whole' in text, text)
         status, text = self.report('line\n', 'line 0\n', '--svg', self.folder / 'no' / 'such.svg')
         self.expect('a picture that cannot be written', status == 1 and 'Traceback' not in text, text)
         status, text = self.report('', '', '--svg', self.folder / 'empty.svg')
         self.expect('an empty day', status == 0 and 'calls 0' in rows(text), text)
+
+    def example(self, program):
+        script = INTERRUPTS.read_bytes()
+        done = subprocess.run([program], input=script, capture_output=True, timeout=60)
+        status, text = self.report(script, done.stdout)
+        self.expect('status of the example of interrupts', status == 0, text)
+        given = [row for lines in calls(text).values() for row in lines[1:] if re.match('taken|ended|ends nothing|nothing', row)]
+        self.expect('the example of interrupts', given == interrupts.EXAMPLE, given)
+        for wanted in interrupts.EXAMPLE_TOTALS:
+            self.expect(f'the example of interrupts: {wanted}', wanted in rows(text), text)
 
     def day(self, program):
         script = DAY.read_text()
@@ -545,7 +636,7 @@ class Tests:
         at = told.index(HASHED[0]) if HASHED[0] in told else 0
         self.expect('the hash of the day', told[at:at + len(HASHED)] == HASHED, text)
         given = [row for lines in calls(text).values() for row in lines[1:] if not row.startswith(('pair ', 'sent '))]
-        self.expect('polling on the day', given == POLLED, given)
+        self.expect('polling and interrupts on the day', given == POLLED + INTERRUPTED, given)
         self.expect('results shown', re.findall(r'descriptor \d of the ring holds 60 bytes, .*"(.*)"', text) == SHOWN, text)
         self.picture(ElementTree.parse(picture).getroot())
 
@@ -558,6 +649,10 @@ class Tests:
         self.expect('the burst in the picture', given == [BURST_MARKS], given)
         given = [sign.title.split('; ')[-1] for sign in signs(root) if sign.kind == 'lost']
         self.expect('polling in the picture', given == [words for words in POLLED if re.match('polling .*receiving', words)], given)
+        given = [sign.title.split('; ', 1)[-1] for sign in signs(root) if sign.kind in ('taken', 'ended')]
+        self.expect('interrupts in the picture', given == [words for words in INTERRUPTED if words[:5] in ('taken', 'ended')], given)
+        given = [element.text or '' for element in root.iter(f'{SVG}text')]
+        self.expect('interrupts in the head', any('; 2 interrupts taken, 2 ended' in text for text in given), given)
         self.expect('fill in the picture', fill(root, max(FILL)) == FILL, fill(root, max(FILL)))
 
 
@@ -634,12 +729,15 @@ def calls(text):
     return {int(at): rows(lines) for at, lines in found}
 
 
-def main(program):
+def main(name):
+    program = str(pathlib.Path(name).resolve())
     with tempfile.TemporaryDirectory() as folder:
         tests = Tests(folder)
         tests.lines()
         tests.ring()
         tests.polling()
+        tests.interrupts(program)
+        tests.wrong_interrupts()
         tests.headings()
         tests.bursts()
         tests.hashes()
@@ -647,7 +745,8 @@ def main(program):
         tests.known()
         tests.statuses()
         tests.faults()
-        tests.day(str(pathlib.Path(program).resolve()))
+        tests.example(program)
+        tests.day(program)
     print(f'report: {tests.passed} passed, {tests.failed} failed')
     return 1 if tests.failed or not tests.passed else 0
 

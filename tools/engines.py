@@ -34,9 +34,11 @@ def steps_sent(number, steps):
 
 
 class Engine:
-    def __init__(self, name, register, awaits):
+    def __init__(self, name, register, awaits, line, bits):
         # its next-descriptor register; at what it looks again where polling is on
         self.name, self.register, self.awaits = name, register, awaits
+        # ENET's status bits: of a frame received or sent, and of the end of a chain
+        self.line, (self.frame_done, self.chain_done) = line, bits
         self.forget()
 
     def forget(self):
@@ -101,13 +103,16 @@ class Engine:
 
     def move(self, control, following, at):
         """Behind a delivery or a send: on to the next place, or the end of the chain."""
+        self.line.set(self.frame_done)
         if control is None:
             self.runs = self.since = None
             self.lead(None)
+            self.line.doubt(self.chain_done)
         elif control & wording.NEXT_ENABLE:
             self.lead(following, self.place)
         else:
             self.stop(at)
+            self.line.set(self.chain_done)
 
     def must(self, run, answer):
         """An answer says whether the engine ran until then."""
@@ -145,11 +150,12 @@ class Engine:
 
 
 class Engines:
-    def __init__(self, named, address_filter):
-        """`named` gives a descriptor's words, by its address; the filter says why a frame is taken."""
-        self.named, self.filter = named, address_filter
-        self.receiving = Engine('receiving', 'RXNDAR', 'frame')
-        self.sending = Engine('sending', 'TXNDAR', 'send')
+    def __init__(self, named, address_filter, line):
+        """`named` gives a descriptor's words, by its address; the filter says why a frame is taken; the engines set status
+        bits, by which ENET's line is known."""
+        self.named, self.filter, self.line = named, address_filter, line
+        self.receiving = Engine('receiving', 'RXNDAR', 'frame', line, ('RX_CURR_DONE', 'RX_DONE'))
+        self.sending = Engine('sending', 'TXNDAR', 'send', line, ('TX_CURR_DONE', 'TX_DONE'))
         self.starts = {'RXSTR': self.receiving, 'TXSTR': self.sending}
         self.nexts = {'RXNDAR': self.receiving, 'TXNDAR': self.sending}
         self.forget()
@@ -171,6 +177,8 @@ class Engines:
     def receive(self, frame, number, at):
         engine = self.receiving
         engine.answer(number)
+        if number == NOT_GRANTED:
+            self.line.set('PACKET_LOST')
         if number:
             return engine.refuse(number, self.named, at)
         control, start, following = self.memory.descriptor(engine.place)

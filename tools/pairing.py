@@ -12,6 +12,8 @@ FLAG = r'([01])'
 # lists, to the end of the line: of starts with their lengths, and of numbers
 PLACES = r'((?: [0-9]{1,8} [0-9]{1,8})*)'
 NUMBERS = r'((?: [0-9]{1,10})*)'
+# the answer of the interrupt controllers: none, or controller, input and vector
+REQUEST = r'(none|[01] (?:[0-9]|1[0-5]) [0-9a-f]{8})'
 
 # name of a call: the words behind it in the script, and those behind it in the output
 FORMS = {
@@ -31,6 +33,11 @@ FORMS = {
     'peek': ([HEX, DECIMAL], [r'(outside|-|(?:[0-9a-f]{2})+)']),
     'check': ([], [WORD]),
     'state': ([], [FLAG, WORD, FLAG, WORD]),
+    'vread': ([FLAG, HEX], [NUMBER, WORD]),
+    'vwrite': ([FLAG, HEX, HEX], [NUMBER]),
+    'inputs': ([FLAG, HEX], []),
+    'irq': ([], [REQUEST]),
+    'fiq': ([], [FLAG]),
 }
 
 BASES = {HEX: 16, DECIMAL: 10, NUMBER: 10, WORD: 16, FLAG: 10}
@@ -112,6 +119,8 @@ def value(form, text):
     if form in (PLACES, NUMBERS):
         numbers = [int(word) for word in text.split()]
         return list(zip(numbers[::2], numbers[1::2])) if form == PLACES else numbers
+    if form == REQUEST:
+        return None if text == 'none' else tuple(int(word, base) for word, base in zip(text.split(), (10, 10, 16)))
     return bytes_of(text) if form in (PAIRS, BYTES) else text
 
 

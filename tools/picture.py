@@ -1,4 +1,4 @@
-"""The picture of a bench day: what became of grants and frames, and the ring's fill, over the calls.
+"""The picture of a bench day: what became of grants, frames and interrupts, and the ring's fill, over the calls.
 
 A call has one column; a burst has one for each of its pairs, with a box around them.
 """
@@ -16,6 +16,8 @@ ROWS = {
     'lost': '#d03a00',
     'refused': '#5f5f5f',
     'sent': '#8a4fa3',
+    'taken': '#7a4a1e',
+    'ended': '#7a4a1e',
 }
 LEGEND = {
     'grants': 'grant made',
@@ -24,12 +26,14 @@ LEGEND = {
     # a frame, or a burst or one of its pairs
     'refused': 'refused, by its number',
     'sent': 'frame sent',
+    'taken': 'interrupt taken',
+    'ended': 'interrupt ended',
 }
 INK, GRID, BAND, FILL, FILL_AREA = '#222222', '#d9d9d9', '#f5f5f5', '#1d3557', '#dbe6f1'
 BURST, BURST_AREA = '#8a6d1b', '#fff4cc'
 
 LEFT, RIGHT = 104, 28
-LEGEND_AT, ROWS_AT, ROW, GAP = 84, 134, 28, 58
+LEGEND_AT, LEGEND_LINE, ROWS_AT, ROW, GAP = 80, 22, 138, 28, 58
 FILL_HEIGHT, FOOT = 168, 56
 # pixels for a column, where the width allows; under the least, a number does not fit in it, or beside that of a tick
 COLUMN, NUMBER_LEAST, TICK_LEAST = 12, 11, 20
@@ -70,6 +74,10 @@ class Drawing:
             self.put('path', group, d=f'M{x - 4.5:g} {y - 4.5:g}l9 9m0 -9l-9 9', stroke=colour, stroke_width=2.5)
         elif kind == 'sent':
             self.put('path', group, d=f'M{x:g} {y - 5.5:g}l5 5.5l-5 5.5l-5 -5.5z', fill=colour)
+        elif kind == 'taken':
+            self.put('path', group, d=f'M{x:g} {y + 6:g}l5 -10h-10z', fill=colour)
+        elif kind == 'ended':
+            self.put('path', group, d=f'M{x:g} {y - 5.5:g}v11', stroke=colour, stroke_width=3)
         else:
             # two digits fit into a column too, since the pairs of a burst often have the same number
             width, size = [(5, 10), (11, 10), (12, 8)][len(number)]
@@ -146,21 +154,27 @@ class Picture:
         if sums.bursts or sums.bursts_refused:
             words += (f'; {count(sums.bursts, "burst")} made, {sums.bursts_refused} refused, '
                       f'{count(sums.outside, "pair")} outside')
+        interrupts = self.day.interrupts.counts
+        if interrupts.taken:
+            words += f'; {count(sum(interrupts.taken.values()), "interrupt")} taken, {interrupts.ended} ended'
         self.drawing.text(24, 34, self.title(), font_size=20, font_weight='bold')
         self.drawing.text(24, 56, words, font_size=13)
 
     def legend(self):
-        x = 30
-        for kind, words in LEGEND.items():
-            self.drawing.mark(kind, x, LEGEND_AT, '6')
-            self.drawing.text(x + 11, LEGEND_AT + 4, words)
-            x += 40 + 6.2 * len(words)
-        words = "ring's fill"
-        self.put('path', d=f'M{x - 8:g} {LEGEND_AT + 4}h8v-8h8', stroke=FILL, stroke_width=2, fill='none')
-        self.drawing.text(x + 13, LEGEND_AT + 4, words)
-        x += 40 + 6.2 * len(words)
-        self.put('rect', x=x - 8, y=LEGEND_AT - 7, width=16, height=14, rx=4, fill=BURST_AREA, stroke=BURST)
-        self.drawing.text(x + 13, LEGEND_AT + 4, 'one burst')
+        """Each sign with its words, on as many lines as the narrowest picture needs."""
+        x, y = 30, LEGEND_AT
+        for kind, words in [*LEGEND.items(), ('fill', "ring's fill"), ('burst', 'one burst')]:
+            width = 40 + 6.2 * len(words)
+            if x + width > WIDTH_LEAST:
+                x, y = 30, y + LEGEND_LINE
+            if kind == 'fill':
+                self.put('path', d=f'M{x - 8:g} {y + 4}h8v-8h8', stroke=FILL, stroke_width=2, fill='none')
+            elif kind == 'burst':
+                self.put('rect', x=x - 8, y=y - 7, width=16, height=14, rx=4, fill=BURST_AREA, stroke=BURST)
+            else:
+                self.drawing.mark(kind, x, y, '6')
+            self.drawing.text(x + (11 if kind in LEGEND else 13), y + 4, words)
+            x += width
 
     def headings(self):
         """The headings that the calls stand under, by their numbers in the report, as bands."""

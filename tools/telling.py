@@ -2,9 +2,12 @@
 import dataclasses
 import zlib
 
+import enet_line
 import engines
 import filtering
+import interrupts
 import pairing
+import vic_words
 import wording
 from pairing import Fault
 from wording import count, message
@@ -124,7 +127,9 @@ class Day:
     def __init__(self, script, output):
         self.totals = Totals()
         self.filter = filtering.Filter()
-        self.engines = engines.Engines(self.the_descriptor, self.filter)
+        self.line = enet_line.EnetLine()
+        self.engines = engines.Engines(self.the_descriptor, self.filter, self.line)
+        self.interrupts = interrupts.Interrupts(self.line)
         self.forget()
         self.entries = [self.told(entry) for entry in pairing.entries(script, output)]
         self.calls = [entry for entry in self.entries if isinstance(entry, Told)]
@@ -141,10 +146,12 @@ class Day:
             self.lose_track()
         if not isinstance(entry, pairing.Call):
             return entry
-        wrong, followed, reasons = odd(entry), [], []
+        wrong, followed, reasons, interrupted = odd(entry), [], [], []
         try:
             if not wrong:
                 reasons, followed = self.filter.follow(entry), self.engines.follow(entry)
+                self.line.follow(entry)
+                interrupted = self.interrupts.follow(entry)
         except engines.Contradiction as contradiction:
             wrong = str(contradiction)
         if wrong:
@@ -156,6 +163,8 @@ class Day:
             part.more += [words] if words else []
         for part, reason in zip(told.parts or [told], reasons):
             self.tell_reason(part, reason)
+        told.more += interrupted
+        told.kind = told.kind or self.interrupts.event
         told.fill = self.fill
         self.totals.calls += 1
         return told
@@ -164,6 +173,8 @@ class Day:
         """Behind a line that could not be told."""
         self.engines.forget()
         self.filter.forget()
+        self.line.forget()
+        self.interrupts.forget()
 
     # ---- places
 
@@ -323,3 +334,20 @@ class Day:
     def tell_state(self, told, receives, receive_place, sends, send_place):
         told.answered = (f'{self.engine(self.engines.receiving, receives, receive_place)}; '
                          f'{self.engine(self.engines.sending, sends, send_place)}')
+
+    # ---- interrupt controllers
+
+    def tell_vread(self, told, controller, offset, number, value):
+        told.answered = wording.answer(number, vic_words.reads(controller, offset, value))
+
+    def tell_vwrite(self, told, controller, offset, value, number):
+        told.answered = wording.answer(number, vic_words.writes(controller, offset, value))
+
+    def tell_inputs(self, told, controller, value):
+        told.answered = f'high at VIC{controller} from now on: {vic_words.given(controller, value)}'
+
+    def tell_irq(self, told, answer):
+        told.answered = f'IRQ: {vic_words.answer(answer)}'
+
+    def tell_fiq(self, told, high):
+        told.answered = f'{high}: FIQ is {"high" if high else "low"}'

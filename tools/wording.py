@@ -55,6 +55,7 @@ INTERRUPTS = [
     ('RX_CURR_DONE', 15, 15), ('RX_MERR_INT', 9, 9), ('RX_DONE', 7, 7), ('RX_NEXT', 6, 6), ('PACKET_LOST', 5, 5),
     ('RX_TO', 3, 3), ('RX_ENTRY', 2, 2), ('RX_FULL', 1, 1), ('RX_EMPTY', 0, 0),
 ]
+STATUS_BITS = {name: 1 << bit for name, bit, _ in INTERRUPTS}
 
 # fields by name, highest and lowest bit (docs/REGISTERS.md)
 FIELDS = {
