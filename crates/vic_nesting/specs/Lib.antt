@@ -1,0 +1,5 @@
+pub mod Accesses
+pub mod Taken
+pub mod Nested
+pub mod Sizes
+pub mod Deep
