@@ -11,9 +11,11 @@ use Rattle.vic_script.specs.declared.VicCall.{VicCall}
 use Rattle.vic_script.specs.declared.VicLine.the-variants.{Calls, Other}
 use Rattle.vic_script.specs.VicCalls.{vicCallOf}
 use Rattle.vic_commands.specs.declared.Controllers.{Controllers}
+use Rattle.vic_commands.specs.VicCommands.{reset}
 use Rattle.board.specs.declared.Board.{Board}
 use Rattle.board.specs.Board.{BoardAnswer, called, renewed, elsewhere, answer}
 use Rattle.siblings.specs.Siblings.{LeavesEnet, AsByItself, Siblings}
+use Rattle.siblings.proofs.New.{new-by-name}
 
 module _ (b : Board) (m line : List ℕ) where
   by-call : (call : VicCall) → vicCallOf line ≡ Calls call → answer b m line ≡ called b m call
@@ -48,6 +50,14 @@ module _ (b : Board) (m line : List ℕ) where
   unfolding renewed
   not-renewed c e = by-bool (is (first line) (characters "new")) (λ u. rw (u, e)) (λ u. rw u)
 
+  is-renewed : (c : Controllers) → renews (callOf line .command) ≡ true → renewed line c ≡ reset
+  unfolding renewed
+  is-renewed c e = rw (new-by-name line e, e)
+
+  renews-controllers : vicCallOf line ≡ Other → renews (callOf line .command) ≡ true → answer b m line .board .controllers ≡ reset
+  unfolding elsewhere
+  renews-controllers e n = ap (λ (a : BoardAnswer). a .board .controllers) (by-other e) ∙ is-renewed (b .controllers) n
+
   leaves-controllers : vicCallOf line ≡ Other → renews (callOf line .command) ≡ false → answer b m line .board .controllers ≡ b .controllers
   unfolding elsewhere
   leaves-controllers e n = ap (λ (a : BoardAnswer). a .board .controllers) (by-other e) ∙ not-renewed (b .controllers) n
@@ -57,5 +67,6 @@ siblings =
     record {
       controllers-leave-enet = λ b m line call e. leaves-enet b m line call e;
       enet-by-itself = λ b m line e. as-by-itself b m line e;
+      new-renews = λ b m line e n. renews-controllers b m line e n;
       enet-leaves-controllers = λ b m line e n. leaves-controllers b m line e n;
     }

@@ -1,7 +1,7 @@
 -- 02, Wish 8: "a sibling register family"; "ENET stays as it is". Of every line that the console answers. Assumes nothing.
 use Prim.Native.Nat.{ℕ}
 use mathlib.Core.Path.{_≡_}
-use mathlib.Core.Bool.{false}
+use mathlib.Core.Bool.{true, false}
 use mathlib.Core.List.{List}
 use Rattle.script.specs.Calls.{callOf}
 use Rattle.kinds.specs.Kinds.{renews}
@@ -9,6 +9,7 @@ use Rattle.commands.specs.Answering.{answer as consoleAnswer}
 use Rattle.vic_script.specs.declared.VicCall.{VicCall}
 use Rattle.vic_script.specs.declared.VicLine.the-variants.{Calls, Other}
 use Rattle.vic_script.specs.VicCalls.{vicCallOf}
+use Rattle.vic_commands.specs.VicCommands.{reset}
 use Rattle.board.specs.declared.Board.{Board}
 use Rattle.board.specs.Board.{answer}
 
@@ -27,6 +28,9 @@ pub record AsByItself (b : Board) (memory line : List ℕ) : Type 0 where
 pub record Siblings : Type 0 where
   pub controllers-leave-enet : (b : Board) (memory line : List ℕ) (call : VicCall) → vicCallOf line ≡ Calls call → LeavesEnet b memory line
   pub enet-by-itself : (b : Board) (memory line : List ℕ) → vicCallOf line ≡ Other → AsByItself b memory line
-  -- but for `new`, which makes both new, no line of ENET's changes the controllers or their inputs
+  -- "`new` makes both controllers new too, with all inputs low"
+  pub new-renews : (b : Board) (memory line : List ℕ) → vicCallOf line ≡ Other → renews (callOf line .command) ≡ true
+      → answer b memory line .board .controllers ≡ reset
+  -- and no other line of ENET's changes the controllers or their inputs
   pub enet-leaves-controllers : (b : Board) (memory line : List ℕ) → vicCallOf line ≡ Other → renews (callOf line .command) ≡ false
       → answer b memory line .board .controllers ≡ b .controllers

@@ -6,8 +6,8 @@ use mathlib.Core.List.{List}
 use lib.Dec.{ltb}
 use borrow.Author.Tests.{lt-ltb, le-ltb, lt-leb, le-leb, eq-eqb, ne-eqb}
 use Rattle.vic_controller.specs.declared.Controller.{Controller}
-use Rattle.vic_controller.specs.declared.Register.{Register}
-use Rattle.vic_controller.specs.Access.{registerAt, accessNumber, valueOf}
+use Rattle.vic_registers.specs.declared.Register.{Register}
+use Rattle.vic_registers.specs.Access.{registerAt, accessNumber, valueOf}
 use Rattle.vic_write.specs.Write.{written}
 use Rattle.vic_service.specs.Service.{lastTaken, taken, ended}
 use Rattle.vic_pair.specs.declared.Vics.{Vics}

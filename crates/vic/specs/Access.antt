@@ -6,7 +6,7 @@ use mathlib.Core.List.{List}
 use lib.Dec.{eqb, ltb, leb}
 use Rattle.rules.specs.Choice.{if_then_else_}
 use Rattle.vic_controller.specs.declared.Controller.{Controller}
-use Rattle.vic_controller.specs.Access.{registerAt, accessNumber, valueOf}
+use Rattle.vic_registers.specs.Access.{registerAt, accessNumber, valueOf}
 use Rattle.vic_write.specs.Write.{written}
 use Rattle.vic_service.specs.Service.{lastTaken, taken, ended}
 use Rattle.vic_pair.specs.declared.Vics.{Vics}

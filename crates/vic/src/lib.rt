@@ -3,10 +3,10 @@
 ghost use mathlib.Core.Path.{_≡_};
 ghost use Rattle.vic.specs.Access.{controllerOf, withController, levelsOf, cameFrom, withService, answered, vectorOf, readVector, writeVector, read, write};
 use vic_controller::Controller;
-use vic_controller::Register;
 use vic_pair::Inputs;
 use vic_pair::Vics;
 use vic_pair::Which;
+use vic_registers::Register;
 
 // A number of the table, the value read, and the pair that is left.
 pub struct Found {
@@ -157,7 +157,7 @@ pub fn read(vics: Vics, inputs: Inputs, which: Which, offset: u32) -> Found
     let c = controller_of(vics, which);
     Found {
         number: register.access_number(),
-        value: c.value_of(levels_of(inputs, which), register),
+        value: vic_registers::value_of(c, levels_of(inputs, which), register),
         vics,
     }
 }

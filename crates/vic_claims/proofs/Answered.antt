@@ -8,7 +8,8 @@ use mathlib.Core.Logic.{_⊎_, inl, inr, ⊎-elim}
 use native.Mathlib.Omega.{arith}
 use native.Mathlib.Nat.{mod-eq-of-lt}
 use lib.Dec.{ltb}
-use lib.ListN.{length, getD}
+use lib.ListN.{length, getD, length-set}
+use lib.Seq.{getD-set-other}
 use borrow.Author.Tests.{ltb-true, ltb-false, lt-ltb, le-ltb}
 use Rattle.rules.specs.Choice.{if_then_else_}
 use Rattle.rules.specs.Bit.{bit}
@@ -17,7 +18,7 @@ use Rattle.first_where.proofs.Laws.{first-within, first-holds, first-least}
 use Rattle.vic_controller.specs.declared.Controller.{Controller}
 use Rattle.vic_controller.specs.Controller.{irqStatus}
 use Rattle.vic_rank.specs.Rank.{slotOf, rankIn, lowestAmong, lowestRank}
-use Rattle.vic_service.specs.Service.{lastTaken}
+use Rattle.vic_service.specs.Service.{lastTaken, taken}
 use Rattle.vic_pair.specs.declared.Vics.{Vics}
 use Rattle.vic_pair.specs.declared.Inputs.{Inputs}
 use Rattle.vic_pair.specs.declared.Which.{Which}
@@ -25,7 +26,7 @@ use Rattle.vic_pair.specs.declared.Which.the-variants.{Vic0, Vic1}
 use Rattle.vic_answer.specs.declared.Interrupt.{Interrupt}
 use Rattle.vic_answer.specs.declared.Interrupt.the-variants.{None, Request}
 use Rattle.vic_answer.specs.Answer.{raisedIn, raisedRank, controllerAt, vectorAt, inputAt, requestAt, irq}
-use Rattle.vic.specs.Access.{controllerOf, levelsOf}
+use Rattle.vic.specs.Access.{controllerOf, levelsOf, withService}
 use Rattle.vic_claims.specs.Requests.{Sized, Requests, rankOf, vectorIn, InService, Above}
 use Rattle.vic_claims.specs.Answers.{Highest, AnswerExactly, RanksApart, Masks}
 use Rattle.vic_claims.proofs.Ranks.{Found, lowest-found, lowest-least, rank-small, slot-names}
@@ -194,11 +195,46 @@ answer-exactly =
           (λ h. silent v i h);
     }
 
+-- one rank more in service
+still-below : (s : List Bool) (r rank : ℕ) → r < lastTaken s → r < rank → r < lastTaken (taken s rank)
+still-below s r rank h k =
+    by-bool (ltb r (lastTaken (taken s rank)))
+    (λ e. ltb-true r (lastTaken (taken s rank)) e)
+    (λ e.
+    let l = lastTaken (taken s rank) in
+    let g : l ≤ r = ltb-false r (lastTaken (taken s rank)) e in
+    let w = first-within (λ b. b) s in
+    let size : length (taken s rank) ≡ length s = simp length-set in
+    let b : l < length (taken s rank) = omega arith in
+    let there : getD (taken s rank) l false ≡ true = first-holds (λ b. b) (taken s rank) false b in
+    let other : getD (taken s rank) l false ≡ getD s l false =
+    getD-set-other s rank l true false (λ (q : l ≡ rank). absurd (omega arith)) in
+    let c : l < length s = omega arith in
+    let m = first-least (λ b. b) s false l (sym other ∙ there) c in
+    absurd (omega arith))
+
+same-raised : (v : Vics) (s : List Bool) (i : Inputs) → raisedRank (withService v s) i ≡ raisedRank v i
+unfolding raisedRank
+same-raised v s i = refl
+
+-- the same answer, where both pairs answer at one rank
+same-answer : (v : Vics) (s : List Bool) (i : Inputs) → raisedRank v i < lastTaken (v .service) → raisedRank v i < lastTaken s
+    → irq (withService v s) i ≡ irq v i
+same-answer v s i h k =
+    answered-is (withService v s) i (rw (same-raised v s i) k) ∙ ap (requestAt v) (same-raised v s i) ∙ sym (answered-is v i h)
+
 pub masks : Masks
 masks =
     record {
       own-and-below = λ v s i r k w n a e. answer-exactly .one v s i w n a e .above r k;
-      none-above = λ v s i w n q u e. answer-exactly .none v s i e w n q u;
+      none-above = λ v i r w n a s e k.
+          let h = answer-exactly .one v s i w n a e in
+          let m = raised-least v i w n (h .requests) in
+          let u : raisedRank v i < lastTaken (v .service) =
+          by-bool (ltb (raisedRank v i) (lastTaken (v .service)))
+          (λ t. ltb-true (raisedRank v i) (lastTaken (v .service)) t)
+          (λ t. let d = silent v i (ltb-false (raisedRank v i) (lastTaken (v .service)) t) in let z : _≡_ {A = ℕ} 0 1 = cc in absurd (omega arith)) in
+          same-answer v (taken (v .service) r) i u (still-below (v .service) (raisedRank v i) r u (omega arith)) ∙ e;
     }
 
 -- ---- no two requests have one rank

@@ -8,8 +8,8 @@ use lib.Dec.{eqb}
 use Rattle.rules.specs.Choice.{if_then_else_}
 use Rattle.rules.proofs.Choices.{by-bool}
 use Rattle.vic_controller.specs.declared.Controller.{Controller}
-use Rattle.vic_controller.specs.declared.Register.{Register}
-use Rattle.vic_controller.specs.declared.Register.the-variants.{
+use Rattle.vic_registers.specs.declared.Register.{Register}
+use Rattle.vic_registers.specs.declared.Register.the-variants.{
   IrqStatus,
   FiqStatus,
   RawStatus,
@@ -24,7 +24,7 @@ use Rattle.vic_controller.specs.declared.Register.the-variants.{
   Control,
   Unmodelled,
 }
-use Rattle.vic_controller.specs.Access.{registerAt, accessNumber, valueOf}
+use Rattle.vic_registers.specs.Access.{registerAt, accessNumber, valueOf}
 use Rattle.vic_write.specs.Write.{written}
 use Rattle.vic_pair.specs.declared.Vics.{Vics}
 use Rattle.vic_pair.specs.declared.Inputs.{Inputs}

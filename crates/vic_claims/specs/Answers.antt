@@ -6,7 +6,8 @@ use Rattle.vic_pair.specs.declared.Inputs.{Inputs}
 use Rattle.vic_pair.specs.declared.Which.{Which}
 use Rattle.vic_answer.specs.declared.Interrupt.the-variants.{None, Request}
 use Rattle.vic_answer.specs.Answer.{irq}
-use Rattle.vic.specs.Access.{controllerOf}
+use Rattle.vic_service.specs.Service.{taken}
+use Rattle.vic.specs.Access.{controllerOf, withService}
 use Rattle.vic_claims.specs.Requests.{Sized, Requests, rankOf, vectorIn, InService, Above}
 
 -- the request of input n of a controller, with a vector, is "the highest raised, enabled IRQ request above those in service"
@@ -28,8 +29,10 @@ abbrev pub RanksApart : Type 0
 RanksApart =
     (v : Vics) → Sized v → (w w′ : Which) (n n′ : ℕ) → n < 16 → n′ < 16 → rankOf v w n ≡ rankOf v w′ n′ → (w ≡ w′) × (n ≡ n′)
 
--- 4.3: a request in service "masks out the current and any lower priority interrupt requests", and none above it
+-- 4.3: a request in service "masks out the current and any lower priority interrupt requests", and none above it: an answer above a rank
+-- stays the answer with that rank in service too
 pub record Masks : Type 0 where
   pub own-and-below : (v : Vics) → Sized v → (i : Inputs) (rank : ℕ) → InService v rank → (w : Which) (n a : ℕ) → irq v i ≡ Request w n a
       → rankOf v w n < rank
-  pub none-above : (v : Vics) → Sized v → (i : Inputs) (w : Which) (n : ℕ) → Requests v i w n → Above v (rankOf v w n) → irq v i ≡ None → ⊥
+  pub none-above : (v : Vics) (i : Inputs) (rank : ℕ) (w : Which) (n a : ℕ) → Sized v → irq v i ≡ Request w n a → rankOf v w n < rank
+      → irq (withService v (taken (v .service) rank)) i ≡ Request w n a

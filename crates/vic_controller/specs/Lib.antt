@@ -1,2 +1,1 @@
 pub mod Controller
-pub mod Access

@@ -1,9 +1,8 @@
-// One of the two interrupt controllers by itself (RM0006, chapter 4): its registers, their constants and reset, its status words,
-// and what a register reads as. Not modelled: the modes of the CPU, which the protection bit is for.
-mod access;
-
+// One of the two interrupt controllers by itself (RM0006, chapter 4): what it holds, the constants of its registers, reset, and its
+// status words. Not modelled: the modes of the CPU, which the protection bit is for.
 ghost use mathlib.Core.Path.{_≡_};
-ghost use Rattle.vic_controller.specs.Controller.{reset, rawStatus, irqStatus, fiqStatus};
+ghost use lib.ListN.{getD};
+ghost use Rattle.vic_controller.specs.Controller.{reset, irqStatus, fiqStatus};
 
 // Software interrupts, enable and selection with a bit for each input, protection, the default vector, and the vector addresses
 // and vector controls of the sixteen slots.
@@ -15,24 +14,6 @@ pub struct Controller {
     pub default: u32,
     pub addresses: [u32; 16],
     pub controls: [u8; 16],
-}
-
-// The registers of a controller by itself, those of a slot by its number, and one case for every other offset. The current vector
-// address is not among them: what a read or a write of it does goes by both controllers.
-pub enum Register {
-    IrqStatus,
-    FiqStatus,
-    RawStatus,
-    Selection,
-    Enable,
-    EnableClear,
-    Software,
-    SoftwareClear,
-    Protection,
-    DefaultVector,
-    Address(usize),
-    Control(usize),
-    Unmodelled,
 }
 
 impl Controller {
@@ -74,19 +55,19 @@ impl Controller {
 
     pub const DVAR_RESET: u32 = 0x0000_0000;
 
-    pub const VAR_I_RESET: u32 = 0x0000_0000;
+    pub const VAIR_RESET: u32 = 0x0000_0000;
 
-    pub const VCR_I_RESET: u8 = 0x00;
+    pub const VCIR_RESET: u8 = 0x00;
 
     // Writable bits of a vector control: its enable bit, and the input that it names.
-    pub const VCR_WRITABLE: u32 = 0x0000_002f;
+    pub const VCIR_WRITABLE: u32 = 0x0000_002f;
 
     // The reset state.
     pub fn reset() -> Controller
         ensures { λ c. ⌜ c ≡ reset ⌝ }
     {
-        let addresses = [Controller::VAR_I_RESET; 16];
-        let controls = [Controller::VCR_I_RESET; 16];
+        let addresses = [Controller::VAIR_RESET; 16];
+        let controls = [Controller::VCIR_RESET; 16];
         Controller {
             software: Controller::SWINTR_RESET,
             enable: Controller::INTER_RESET,
@@ -98,14 +79,7 @@ impl Controller {
         }
     }
 
-    // The raw status, with the levels of the sixteen inputs.
-    pub fn raw_status(self, inputs: u16) -> u16
-        ensures { λ s. ⌜ s ≡ rawStatus self inputs ⌝ }
-    {
-        inputs | self.software
-    }
-
-    // The IRQ status.
+    // The IRQ status, with the levels of the sixteen inputs.
     pub fn irq_status(self, inputs: u16) -> u16
         ensures { λ s. ⌜ s ≡ irqStatus self inputs ⌝ }
     {
@@ -117,5 +91,25 @@ impl Controller {
         ensures { λ s. ⌜ s ≡ fiqStatus self inputs ⌝ }
     {
         (inputs | self.software) & self.enable & self.selection
+    }
+
+    // The vector address of a slot; there is none past the last slot.
+    pub fn address(self, slot: usize) -> u32
+        ensures { λ v. ⌜ v ≡ getD (self .addresses) slot 0 ⌝ }
+    {
+        if 16 <= slot {
+            return 0;
+        }
+        self.addresses[slot]
+    }
+
+    // The vector control of a slot.
+    pub fn control(self, slot: usize) -> u32
+        ensures { λ v. ⌜ v ≡ getD (self .controls) slot 0 ⌝ }
+    {
+        if 16 <= slot {
+            return 0;
+        }
+        self.controls[slot] as u32
     }
 }

@@ -7,8 +7,8 @@ use lib.Dec.{eqb}
 use lib.ListN.{length, set, length-set}
 use Rattle.rules.proofs.Choices.{by-bool}
 use Rattle.vic_controller.specs.declared.Controller.{Controller}
-use Rattle.vic_controller.specs.declared.Register.{Register}
-use Rattle.vic_controller.specs.declared.Register.the-variants.{
+use Rattle.vic_registers.specs.declared.Register.{Register}
+use Rattle.vic_registers.specs.declared.Register.the-variants.{
   IrqStatus,
   FiqStatus,
   RawStatus,
@@ -23,7 +23,7 @@ use Rattle.vic_controller.specs.declared.Register.the-variants.{
   Control,
   Unmodelled,
 }
-use Rattle.vic_controller.specs.Access.{registerAt}
+use Rattle.vic_registers.specs.Access.{registerAt}
 use Rattle.vic_write.specs.Write.{controlKept, written}
 use Rattle.vic_service.specs.Service.{taken, ended, lastTaken}
 use Rattle.vic_pair.specs.declared.Vics.{Vics}

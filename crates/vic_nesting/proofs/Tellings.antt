@@ -8,7 +8,7 @@ use lib.Dec.{eqb, ltb}
 use borrow.Author.Tests.{ltb-true}
 use Rattle.rules.specs.Choice.{if_then_else_}
 use Rattle.rules.proofs.Choices.{by-bool}
-use Rattle.vic_controller.specs.Access.{registerAt}
+use Rattle.vic_registers.specs.Access.{registerAt}
 use Rattle.vic_write.specs.Write.{written}
 use Rattle.vic_service.specs.Service.{taken, ended, lastTaken}
 use Rattle.vic_pair.specs.declared.Vics.{Vics}

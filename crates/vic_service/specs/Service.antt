@@ -19,6 +19,6 @@ abbrev pub ended : List Bool → ℕ → List Bool
 ended s rank = set s rank false
 
 -- the last taken: the lowest rank in service, since a request is taken only above all in service (theorem `last-taken` of crate
--- vic_claims); 64 where none is in service
+-- vic_nesting); their number, 64, where none is in service
 abbrev pub lastTaken : List Bool → ℕ
 lastTaken s = firstWhere (λ b. b) s

@@ -6,8 +6,8 @@ use lib.Dec.{eqb}
 use lib.ListN.{set}
 use lib.Bits.{bitAnd, bitOr}
 use Rattle.vic_controller.specs.declared.Controller.{Controller}
-use Rattle.vic_controller.specs.declared.Register.{Register}
-use Rattle.vic_controller.specs.declared.Register.the-variants.{
+use Rattle.vic_registers.specs.declared.Register.{Register}
+use Rattle.vic_registers.specs.declared.Register.the-variants.{
   IrqStatus,
   FiqStatus,
   RawStatus,

@@ -3,7 +3,7 @@ ghost use mathlib.Core.Path.{_≡_};
 ghost use lib.ListN.{set};
 ghost use Rattle.vic_write.specs.Write.{withAddresses, withControls, lowHalf, bitsSet, bitsCleared, controlKept, written};
 use vic_controller::Controller;
-use vic_controller::Register;
+use vic_registers::Register;
 
 // What is kept for a register with a bit for each input.
 fn low_half(v: u32) -> u16
@@ -30,7 +30,7 @@ fn bits_cleared(old: u16, v: u32) -> u16
 fn control_kept(v: u32) -> u8
     ensures { λ r. ⌜ r ≡ controlKept v ⌝ }
 {
-    (v & Controller::VCR_WRITABLE) as u8
+    (v & Controller::VCIR_WRITABLE) as u8
 }
 
 // A slot's vector address written; past the last slot there is none.
