@@ -7,6 +7,7 @@ use vic_pair::Inputs;
 use vic_pair::Vics;
 use vic_pair::Which;
 use vic_registers::Register;
+use vic_service::Service;
 
 // A number of the table, the value read, and the pair that is left.
 pub struct Found {
@@ -75,7 +76,7 @@ fn vector_of(vics: Vics, rank: usize) -> u32
     vic_answer::vector_at(vics.vic1, rank % 32)
 }
 
-fn with_service(vics: Vics, service: [bool; 64]) -> Vics
+fn with_service(vics: Vics, service: Service) -> Vics
     ensures { λ v. ⌜ v ≡ withService vics service ⌝ }
 {
     let mut next = vics;

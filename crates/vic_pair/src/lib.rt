@@ -3,12 +3,13 @@
 ghost use mathlib.Core.Path.{_≡_};
 ghost use Rattle.vic_pair.specs.Vics.{reset, low, withLine, fiq};
 use vic_controller::Controller;
+use vic_service::Service;
 
 // Both controllers, and the ranks in service: those of VIC0 up to 31, those of VIC1 from 32 on.
 pub struct Vics {
     pub vic0: Controller,
     pub vic1: Controller,
-    pub service: [bool; 64],
+    pub service: Service,
 }
 
 // The levels of the sixteen inputs of each controller, input n at bit n.

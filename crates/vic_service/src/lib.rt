@@ -5,6 +5,9 @@ ghost use Rattle.vic_service.specs.Service.{taken, ended, lastTaken};
 // How many ranks there are: 32 of each controller.
 const RANKS: usize = 64;
 
+// Of each rank, whether it is in service.
+pub type Service = [bool; 64];
+
 // The last taken, or the number of ranks where none is in service.
 pub fn last_taken(service: &[bool]) -> usize
     ensures { λ r. ⌜ r ≡ lastTaken (now (service .entry)) ⌝ }
@@ -20,7 +23,7 @@ pub fn last_taken(service: &[bool]) -> usize
 }
 
 // One taken; there is none past the last rank.
-pub fn taken(service: [bool; 64], rank: usize) -> [bool; 64]
+pub fn taken(service: Service, rank: usize) -> Service
     ensures { λ r. ⌜ r ≡ taken service rank ⌝ }
 {
     let mut next = service;
@@ -32,7 +35,7 @@ pub fn taken(service: [bool; 64], rank: usize) -> [bool; 64]
 }
 
 // One ended.
-pub fn ended(service: [bool; 64], rank: usize) -> [bool; 64]
+pub fn ended(service: Service, rank: usize) -> Service
     ensures { λ r. ⌜ r ≡ ended service rank ⌝ }
 {
     let mut next = service;
