@@ -1,10 +1,9 @@
 -- The ways out of a line's answer. Assumes nothing.
 use Prim.Native.Nat.{ℕ}
-use mathlib.Core.Path.{_≡_, refl}
+use mathlib.Core.Path.{_≡_}
 use mathlib.Core.Bool.{Bool, true, false, not}
 use mathlib.Core.List.{List}
-use Rattle.rules.proofs.Choices.{said-yes, said-no}
-use Rattle.text.specs.Text.{Text, written, put}
+use Rattle.rules.proofs.Choices.{said-no}
 use Rattle.enet.specs.Access.{interruptLine}
 use Rattle.words.specs.Words.{characters, is, first}
 use Rattle.script.specs.declared.Call.{Call}
@@ -22,26 +21,27 @@ use Rattle.vic_commands.specs.declared.Controllers.{Controllers}
 use Rattle.vic_commands.specs.declared.VicTold.{VicTold}
 use Rattle.vic_commands.specs.VicCommands.{reset as resetControllers, answerTo, given as vicGiven, tells as vicTells}
 use Rattle.board.specs.declared.Board.{Board}
-use Rattle.board.specs.Board.{reset, enetLine, called, renewed, elsewhere, answer, Given, given, tells}
+use Rattle.board.proofs.New.{not-by-name}
+use Rattle.board.specs.Board.{reset, called, renewed, elsewhere, answer, Given, given, tells}
 
 pub reset-both : (c : Console) (v : Controllers) → c ≡ resetConsole → v ≡ resetControllers → record { console = c; controllers = v } ≡ reset
 unfolding reset
 reset-both c v e f = λ j. record { console = e j; controllers = f j }
 
--- the controllers after a line
-module _ (line w : List ℕ) (c : Controllers) (s : Bool) (cut : w ≡ first line) (e : s ≡ is w (characters "new")) where
-  pub not-new : not s ≡ true → c ≡ renewed line c
+-- the controllers after a line, which the code does not read as a call where its first word is not `new`
+pub not-new : (line w : List ℕ) (c : Controllers) (s : Bool) → w ≡ first line → s ≡ is w (characters "new") → not s ≡ true → c ≡ renewed line c
+unfolding renewed
+not-new line w c s cut e h =
+    let n : is (first line) (characters "new") ≡ false = rw cut at (said-no (is w (characters "new")) s e h) in rw (not-by-name line n)
+
+module _ (line : List ℕ) (c : Controllers) (k : Call) (ek : k ≡ callOf line) (b : Bool) (eb : b ≡ renews (k .command)) where
+  pub is-new : (n : Controllers) → b ≡ true → n ≡ resetControllers → n ≡ renewed line c
   unfolding renewed
-  not-new h = rw (← cut, said-no (is w (characters "new")) s e h)
+  is-new n y en = rw (← ek, ← eb, y) en
 
-  module _ (h : not s ≡ false) (k : Call) (ek : k ≡ callOf line) (b : Bool) (eb : b ≡ renews (k .command)) where
-    pub is-new : (n : Controllers) → b ≡ true → n ≡ resetControllers → n ≡ renewed line c
-    unfolding renewed
-    is-new n y en = rw (← cut, said-yes (is w (characters "new")) s e h, ← ek, ← eb, y) en
-
-    pub no-call : b ≡ false → c ≡ renewed line c
-    unfolding renewed
-    no-call n = rw (← cut, said-yes (is w (characters "new")) s e h, ← ek, ← eb, n)
+  pub no-call : b ≡ false → c ≡ renewed line c
+  unfolding renewed
+  no-call n = rw (← ek, ← eb, n)
 
 -- a line that calls the controllers, and any other
 module _ (b : Board) (t t′ : List ℕ) (at : ℕ) where

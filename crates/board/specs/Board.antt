@@ -4,7 +4,6 @@ use mathlib.Core.Bool.{Bool}
 use mathlib.Core.List.{List}
 use Rattle.rules.specs.Choice.{if_then_else_}
 use Rattle.enet.specs.Access.{interruptLine}
-use Rattle.words.specs.Words.{characters, is, first}
 use Rattle.script.specs.Calls.{callOf}
 use Rattle.kinds.specs.Kinds.{renews}
 use Rattle.text.specs.Text.{Text, written, put}
@@ -42,10 +41,9 @@ called b m call =
 
 -- ---- any other line
 
--- "`new` makes both controllers new too, with all inputs low", also when it answers 1: where the line is the call `new`
+-- `new`: "both interrupt controllers are new too, all inputs low", also when it answers 1
 unfoldable pub renewed : List ℕ → Controllers → Controllers
-renewed line c =
-    if is (first line) (characters "new") then (if renews (callOf line .command) then resetControllers else c) else c
+renewed line c = if renews (callOf line .command) then resetControllers else c
 
 -- the console answers, and no other line changes the controllers
 unfoldable pub elsewhere : Board → List ℕ → List ℕ → BoardAnswer

@@ -1,15 +1,14 @@
 -- The laws of the first place at which a test holds: how a loop along the list finds it, and what is there and before it.
 -- Assumes nothing.
 use Prim.Native.Nat.{ℕ, zero, suc, _+_, _≤_, _<_}
-use mathlib.Core.Path.{_≡_, refl, sym, ap, _∙_}
-use mathlib.Core.Bool.{Bool, true, false, true≢false, false≢true}
+use mathlib.Core.Path.{_≡_}
+use mathlib.Core.Bool.{Bool, true, false}
 use mathlib.Core.List.{List, [], _∷_}
 use native.Mathlib.Omega.{arith}
-use native.Mathlib.Nat.{add-zero, add-suc, not-suc-le-zero, le-of-suc-le-suc}
+use native.Mathlib.Nat.{add-zero, not-suc-le-zero, le-of-suc-le-suc}
 use native.Mathlib.Numerals.{add-one}
-use lib.ListN.{length, getD, set, drop, drop-of-length-le}
+use lib.ListN.{length, getD, drop, drop-of-length-le}
 use lib.Seq.{drop-cons}
-use Rattle.rules.specs.Choice.{if_then_else_}
 use Rattle.rules.proofs.Choices.{by-bool}
 use Rattle.first_where.specs.First.{firstWhere}
 
@@ -65,7 +64,3 @@ module _ {A : Type 0} (t : A → Bool) where
   first-least (a ∷ l) d zero e h = rw e (omega arith)
   first-least (a ∷ l) d (suc k) e h =
       by-bool (t a) (λ u. rw u (omega arith)) (λ u. let g = first-least l d k e (le-of-suc-le-suc h) in rw u (omega arith))
-
-  -- the place itself, where the test holds there and nowhere before
-  pub first-is : (l : List A) (d : A) (k : ℕ) → k ≤ firstWhere t l → k < length l → t (getD l k d) ≡ true → firstWhere t l ≡ k
-  first-is l d k b h e = let g = first-least l d k e h in omega arith

@@ -1,4 +1,4 @@
--- The console's commands in two kinds: those that ask, and those that act. Assumes nothing.
+-- The console's commands in two kinds: those that ask, and those that act; and the one that makes a new bench. Assumes nothing.
 use mathlib.Core.Bool.{Bool, true, false}
 use Rattle.script.specs.declared.Command.{Command}
 use Rattle.script.specs.declared.Command.the-variants.{New, Lend, Read, Write, Line, Grant, Frame, Burst, Send, Run, Show, Ring, Poke, Peek, Check, State, Error}

@@ -1,4 +1,4 @@
-// The console's commands in two kinds: those that ask, and change nothing, and those that act.
+// The console's commands in two kinds: those that ask, and change nothing, and those that act; and the one that makes a new bench.
 ghost use mathlib.Core.Path.{_≡_};
 ghost use Rattle.kinds.specs.Kinds.{kindOf, renews};
 use script::Command;

@@ -1,10 +1,8 @@
 -- Neither of the two changes the other. Assumes nothing.
 use Prim.Native.Nat.{ℕ}
-use mathlib.Core.Path.{_≡_, refl, ap, _∙_}
+use mathlib.Core.Path.{_≡_, ap, _∙_}
 use mathlib.Core.Bool.{true, false}
 use mathlib.Core.List.{List}
-use Rattle.rules.proofs.Choices.{by-bool}
-use Rattle.words.specs.Words.{characters, is, first}
 use Rattle.script.specs.Calls.{callOf}
 use Rattle.kinds.specs.Kinds.{renews}
 use Rattle.vic_script.specs.declared.VicCall.{VicCall}
@@ -15,7 +13,6 @@ use Rattle.vic_commands.specs.VicCommands.{reset}
 use Rattle.board.specs.declared.Board.{Board}
 use Rattle.board.specs.Board.{BoardAnswer, called, renewed, elsewhere, answer}
 use Rattle.siblings.specs.Siblings.{LeavesEnet, AsByItself, Siblings}
-use Rattle.siblings.proofs.New.{new-by-name}
 
 module _ (b : Board) (m line : List ℕ) where
   by-call : (call : VicCall) → vicCallOf line ≡ Calls call → answer b m line ≡ called b m call
@@ -48,11 +45,11 @@ module _ (b : Board) (m line : List ℕ) where
 
   not-renewed : (c : Controllers) → renews (callOf line .command) ≡ false → renewed line c ≡ c
   unfolding renewed
-  not-renewed c e = by-bool (is (first line) (characters "new")) (λ u. rw (u, e)) (λ u. rw u)
+  not-renewed c e = rw e
 
   is-renewed : (c : Controllers) → renews (callOf line .command) ≡ true → renewed line c ≡ reset
   unfolding renewed
-  is-renewed c e = rw (new-by-name line e, e)
+  is-renewed c e = rw e
 
   renews-controllers : vicCallOf line ≡ Other → renews (callOf line .command) ≡ true → answer b m line .board .controllers ≡ reset
   unfolding elsewhere

@@ -28,7 +28,7 @@ pub record AsByItself (b : Board) (memory line : List ℕ) : Type 0 where
 pub record Siblings : Type 0 where
   pub controllers-leave-enet : (b : Board) (memory line : List ℕ) (call : VicCall) → vicCallOf line ≡ Calls call → LeavesEnet b memory line
   pub enet-by-itself : (b : Board) (memory line : List ℕ) → vicCallOf line ≡ Other → AsByItself b memory line
-  -- "`new` makes both controllers new too, with all inputs low"
+  -- `new`: "both interrupt controllers are new too, all inputs low"
   pub new-renews : (b : Board) (memory line : List ℕ) → vicCallOf line ≡ Other → renews (callOf line .command) ≡ true
       → answer b memory line .board .controllers ≡ reset
   -- and no other line of ENET's changes the controllers or their inputs

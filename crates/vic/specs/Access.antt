@@ -14,7 +14,7 @@ use Rattle.vic_pair.specs.declared.Inputs.{Inputs}
 use Rattle.vic_pair.specs.declared.Which.{Which}
 use Rattle.vic_pair.specs.declared.Which.the-variants.{Vic0, Vic1}
 use Rattle.vic_pair.specs.Vics.{made}
-use Rattle.vic_answer.specs.Answer.{raisedRank, controllerAt, vectorAt}
+use Rattle.vic_answer.specs.Answer.{raisedRank, answered, controllerAt, vectorAt}
 use Rattle.vic.specs.declared.Found.{Found}
 use Rattle.vic.specs.declared.Change.{Change}
 
@@ -41,10 +41,6 @@ abbrev pub withService : Vics → List Bool → Vics
 withService v s = made (v .vic0) (v .vic1) s
 
 -- ---- the current vector address, 030h of each (4.10.10)
-
--- "The IRQ answer is the highest raised, enabled IRQ request above those in service": there is one
-abbrev pub answered : Vics → Inputs → Bool
-answered v i = ltb (raisedRank v i) (lastTaken (v .service))
 
 -- the vector of a rank, as its registers stand now
 abbrev pub vectorOf : Vics → ℕ → ℕ

@@ -1,12 +1,14 @@
 // The two interrupt controllers of RM0006, chapter 4, beside the device: a register read and written, with what the current vector
 // address takes into service and ends. The pair's state is vic_pair's, its answer vic_answer's.
 ghost use mathlib.Core.Path.{_≡_};
-ghost use Rattle.vic.specs.Access.{controllerOf, withController, levelsOf, cameFrom, withService, answered, vectorOf, readVector, writeVector, read, write};
+ghost use Rattle.vic.specs.Access.{controllerOf, withController, levelsOf, cameFrom, withService, vectorOf, readVector, writeVector, read, write};
 use vic_controller::Controller;
 use vic_pair::Inputs;
 use vic_pair::Vics;
 use vic_pair::Which;
 use vic_registers::Register;
+use vic_service::RANKS;
+use vic_service::RANKS_EACH;
 use vic_service::Service;
 
 // A number of the table, the value read, and the pair that is left.
@@ -61,8 +63,12 @@ fn came_from(which: Which, rank: usize) -> bool
     ensures { λ r. ⌜ r ≡ cameFrom which rank ⌝ }
 {
     match which {
-        Which::Vic0 => rank < 32,
-        Which::Vic1 => if rank < 32 { false } else { rank < 64 },
+        Which::Vic0 => rank < RANKS_EACH,
+        Which::Vic1 => if rank < RANKS_EACH {
+            false
+        } else {
+            rank < RANKS
+        },
     }
 }
 
@@ -70,10 +76,10 @@ fn came_from(which: Which, rank: usize) -> bool
 fn vector_of(vics: Vics, rank: usize) -> u32
     ensures { λ r. ⌜ r ≡ vectorOf vics rank ⌝ }
 {
-    if rank < 32 {
-        return vic_answer::vector_at(vics.vic0, rank % 32);
+    if rank < RANKS_EACH {
+        return vic_answer::vector_at(vics.vic0, rank % RANKS_EACH);
     }
-    vic_answer::vector_at(vics.vic1, rank % 32)
+    vic_answer::vector_at(vics.vic1, rank % RANKS_EACH)
 }
 
 fn with_service(vics: Vics, service: Service) -> Vics

@@ -1,8 +1,6 @@
 -- What each function answers, as laws of its definition. Assumes nothing.
-use Prim.Native.Nat.{ℕ, _+_, _-_, _%_, _^_, _≤_, _<_}
-use mathlib.Core.Path.{_≡_, refl, sym}
-use mathlib.Core.Bool.{Bool}
-use mathlib.Core.List.{List}
+use Prim.Native.Nat.{ℕ, _+_, _-_, _%_, _≤_, _<_}
+use mathlib.Core.Path.{_≡_}
 use lib.ListN.{getD}
 use borrow.Author.Tests.{lt-ltb, le-ltb}
 use Rattle.vic_controller.specs.declared.Controller.{Controller}
@@ -13,7 +11,6 @@ use Rattle.vic_service.specs.Service.{lastTaken}
 use Rattle.vic_pair.specs.declared.Vics.{Vics}
 use Rattle.vic_pair.specs.declared.Inputs.{Inputs}
 use Rattle.vic_pair.specs.declared.Which.the-variants.{Vic0, Vic1}
-use Rattle.vic_answer.specs.declared.Interrupt.{Interrupt}
 use Rattle.vic_answer.specs.declared.Interrupt.the-variants.{None, Request}
 use Rattle.vic_answer.specs.Answer.{raisedIn, raisedRank, vectorAt, inputAt, irq}
 

@@ -1,5 +1,6 @@
 -- 02, Wish 8: the IRQ answer. The ranks of both controllers run from 0 to 63, and the lower comes first. Assumes nothing.
 use Prim.Native.Nat.{ℕ, _+_, _-_, _%_}
+use mathlib.Core.Bool.{Bool}
 use lib.Dec.{ltb}
 use lib.ListN.{getD}
 use Rattle.rules.specs.Choice.{if_then_else_}
@@ -44,6 +45,10 @@ abbrev pub requestAt : Vics → ℕ → Interrupt
 requestAt v rank =
     Request (whichAt rank) (inputAt (controllerAt v rank) (rank % 32)) (vectorAt (controllerAt v rank) (rank % 32))
 
+-- there is a raised, enabled IRQ request "above those in service"
+abbrev pub answered : Vics → Inputs → Bool
+answered v i = ltb (raisedRank v i) (lastTaken (v .service))
+
 -- "The IRQ answer is the highest raised, enabled IRQ request above those in service, or none exactly if there is none."
 unfoldable pub irq : Vics → Inputs → Interrupt
-irq v i = if ltb (raisedRank v i) (lastTaken (v .service)) then requestAt v (raisedRank v i) else None
+irq v i = if answered v i then requestAt v (raisedRank v i) else None

@@ -1,20 +1,18 @@
 // The IRQ answer of the two interrupt controllers.
 ghost use Prim.Native.Nat.{_/_, _%_};
 ghost use mathlib.Core.Path.{_≡_};
-ghost use Rattle.vic_answer.specs.Answer.{raisedIn, raisedRank, controllerAt, vectorAt, inputAt, irq};
+ghost use Rattle.vic_answer.specs.Answer.{raisedIn, raisedRank, vectorAt, inputAt, irq};
 use vic_controller::Controller;
 use vic_pair::Inputs;
 use vic_pair::Vics;
 use vic_pair::Which;
+use vic_service::RANKS_EACH;
 
 // The answer: the request's controller, its input and its vector; or none.
 pub enum Interrupt {
     None,
     Request(Which, u32, u32),
 }
-
-// How many ranks a controller has.
-const RANKS: usize = 32;
 
 // The lowest rank raised in a controller, or how many it has.
 fn raised_in(c: Controller, inputs: u16) -> usize
@@ -29,10 +27,10 @@ pub fn raised_rank(vics: Vics, inputs: Inputs) -> usize
     ensures { λ r. ⌜ r ≡ raisedRank vics inputs ⌝ }
 {
     let first = raised_in(vics.vic0, inputs.vic0);
-    if first < RANKS {
+    if first < RANKS_EACH {
         return first;
     }
-    RANKS + raised_in(vics.vic1, inputs.vic1)
+    RANKS_EACH + raised_in(vics.vic1, inputs.vic1)
 }
 
 // The vector of a rank of a controller.
@@ -64,8 +62,8 @@ pub fn irq(vics: Vics, inputs: Inputs) -> Interrupt
     if vic_service::last_taken(&service) <= rank {
         return Interrupt::None;
     }
-    let place = rank % RANKS;
-    if rank < RANKS {
+    let place = rank % RANKS_EACH;
+    if rank < RANKS_EACH {
         let c = vics.vic0;
         return Interrupt::Request(Which::Vic0, input_at(c, place as u32), vector_at(c, place));
     }

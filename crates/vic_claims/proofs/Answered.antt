@@ -4,32 +4,28 @@ use Prim.Native.Nat.{ℕ, _+_, _-_, _%_, _≤_, _<_}
 use mathlib.Core.Path.{_≡_, refl, sym, ap, subst, _∙_}
 use mathlib.Core.Bool.{Bool, true, false}
 use mathlib.Core.List.{List}
-use mathlib.Core.Logic.{_⊎_, inl, inr, ⊎-elim}
 use native.Mathlib.Omega.{arith}
 use native.Mathlib.Nat.{mod-eq-of-lt}
 use lib.Dec.{ltb}
 use lib.ListN.{length, getD, length-set}
 use lib.Seq.{getD-set-other}
 use borrow.Author.Tests.{ltb-true, ltb-false, lt-ltb, le-ltb}
-use Rattle.rules.specs.Choice.{if_then_else_}
-use Rattle.rules.specs.Bit.{bit}
 use Rattle.rules.proofs.Choices.{by-bool}
 use Rattle.first_where.proofs.Laws.{first-within, first-holds, first-least}
 use Rattle.vic_controller.specs.declared.Controller.{Controller}
 use Rattle.vic_controller.specs.Controller.{irqStatus}
-use Rattle.vic_rank.specs.Rank.{slotOf, rankIn, lowestAmong, lowestRank}
+use Rattle.vic_rank.specs.Rank.{slotOf, rankIn}
 use Rattle.vic_service.specs.Service.{lastTaken, taken}
 use Rattle.vic_pair.specs.declared.Vics.{Vics}
 use Rattle.vic_pair.specs.declared.Inputs.{Inputs}
 use Rattle.vic_pair.specs.declared.Which.{Which}
 use Rattle.vic_pair.specs.declared.Which.the-variants.{Vic0, Vic1}
-use Rattle.vic_answer.specs.declared.Interrupt.{Interrupt}
 use Rattle.vic_answer.specs.declared.Interrupt.the-variants.{None, Request}
-use Rattle.vic_answer.specs.Answer.{raisedIn, raisedRank, controllerAt, vectorAt, inputAt, requestAt, irq}
-use Rattle.vic.specs.Access.{controllerOf, levelsOf, withService}
-use Rattle.vic_claims.specs.Requests.{Sized, Requests, rankOf, vectorIn, InService, Above}
+use Rattle.vic_answer.specs.Answer.{raisedIn, raisedRank, vectorAt, inputAt, requestAt, irq}
+use Rattle.vic.specs.Access.{controllerOf, withService}
+use Rattle.vic_claims.specs.Requests.{Sized, Requests, rankOf, vectorIn, Above}
 use Rattle.vic_claims.specs.Answers.{Highest, AnswerExactly, RanksApart, Masks}
-use Rattle.vic_claims.proofs.Ranks.{Found, lowest-found, lowest-least, rank-small, slot-names}
+use Rattle.vic_claims.proofs.Ranks.{lowest-found, lowest-least, rank-small, slot-names}
 
 -- ---- a rank of a controller: its input and its vector
 
@@ -48,7 +44,7 @@ vector-back c n =
 
 -- ---- the request of a rank
 
-request-back : (v : Vics) → Sized v → (w : Which) (n : ℕ) → n < 16 → requestAt v (rankOf v w n) ≡ Request w n (vectorIn (controllerOf v w) n)
+pub request-back : (v : Vics) → Sized v → (w : Which) (n : ℕ) → n < 16 → requestAt v (rankOf v w n) ≡ Request w n (vectorIn (controllerOf v w) n)
 request-back v s Vic0 n h =
     let r = rankIn (v .vic0 .controls) n in
     let k : r < 32 = rank-small (v .vic0 .controls) n h in
@@ -133,7 +129,7 @@ pub record Given (v : Vics) (i : Inputs) : Type 0 where
   pub is : irq v i ≡ Request which input (vectorIn (controllerOf v which) input)
   pub highest : Highest v i which input (vectorIn (controllerOf v which) input)
 
-answered-is : (v : Vics) (i : Inputs) → raisedRank v i < lastTaken (v .service) → irq v i ≡ requestAt v (raisedRank v i)
+pub answered-is : (v : Vics) (i : Inputs) → raisedRank v i < lastTaken (v .service) → irq v i ≡ requestAt v (raisedRank v i)
 unfolding irq
 answered-is v i h = rw (lt-ltb (raisedRank v i) (lastTaken (v .service)) h)
 
@@ -159,7 +155,7 @@ given v s i h =
     let g : raisedRank v i < 64 = omega arith in
     given-by v s i h (raised-found v i g)
 
-silent : (v : Vics) (i : Inputs) → lastTaken (v .service) ≤ raisedRank v i → irq v i ≡ None
+pub silent : (v : Vics) (i : Inputs) → lastTaken (v .service) ≤ raisedRank v i → irq v i ≡ None
 unfolding irq
 silent v i h = rw (le-ltb (raisedRank v i) (lastTaken (v .service)) h)
 
@@ -227,7 +223,7 @@ pub masks : Masks
 masks =
     record {
       own-and-below = λ v s i r k w n a e. answer-exactly .one v s i w n a e .above r k;
-      none-above = λ v i r w n a s e k.
+      none-above = λ v s i r w n a e k.
           let h = answer-exactly .one v s i w n a e in
           let m = raised-least v i w n (h .requests) in
           let u : raisedRank v i < lastTaken (v .service) =

@@ -1,3 +1,4 @@
 pub mod Ranks
 pub mod Answered
+pub mod Taking
 pub mod Refusals

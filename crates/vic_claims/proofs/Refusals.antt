@@ -5,9 +5,7 @@ use mathlib.Core.Bool.{true, false}
 use mathlib.Core.Logic.{_⊎_, inl, inr}
 use native.Mathlib.Omega.{arith}
 use lib.Dec.{eqb}
-use Rattle.rules.specs.Choice.{if_then_else_}
 use Rattle.rules.proofs.Choices.{by-bool}
-use Rattle.vic_controller.specs.declared.Controller.{Controller}
 use Rattle.vic_registers.specs.declared.Register.{Register}
 use Rattle.vic_registers.specs.declared.Register.the-variants.{
   IrqStatus,
@@ -32,7 +30,8 @@ use Rattle.vic_pair.specs.declared.Which.{Which}
 use Rattle.vic_pair.specs.declared.Which.the-variants.{Vic0, Vic1}
 use Rattle.vic.specs.declared.Found.{Found}
 use Rattle.vic.specs.declared.Change.{Change}
-use Rattle.vic.specs.Access.{controllerOf, withController, levelsOf, answered, readVector, writeVector, read, write}
+use Rattle.vic_answer.specs.Answer.{answered}
+use Rattle.vic.specs.Access.{controllerOf, withController, levelsOf, readVector, writeVector, read, write}
 use Rattle.vic_claims.specs.Refused.{RefusedLeaves}
 
 -- ---- by the register

@@ -4,10 +4,11 @@ use mathlib.Core.Path.{_≡_}
 use Rattle.vic_pair.specs.declared.Vics.{Vics}
 use Rattle.vic_pair.specs.declared.Inputs.{Inputs}
 use Rattle.vic_pair.specs.declared.Which.{Which}
+use Rattle.vic_pair.specs.declared.Which.the-variants.{Vic0}
 use Rattle.vic_answer.specs.declared.Interrupt.the-variants.{None, Request}
 use Rattle.vic_answer.specs.Answer.{irq}
 use Rattle.vic_service.specs.Service.{taken}
-use Rattle.vic.specs.Access.{controllerOf, withService}
+use Rattle.vic.specs.Access.{controllerOf, withService, found, read}
 use Rattle.vic_claims.specs.Requests.{Sized, Requests, rankOf, vectorIn, InService, Above}
 
 -- the request of input n of a controller, with a vector, is "the highest raised, enabled IRQ request above those in service"
@@ -34,5 +35,12 @@ RanksApart =
 pub record Masks : Type 0 where
   pub own-and-below : (v : Vics) → Sized v → (i : Inputs) (rank : ℕ) → InService v rank → (w : Which) (n a : ℕ) → irq v i ≡ Request w n a
       → rankOf v w n < rank
-  pub none-above : (v : Vics) (i : Inputs) (rank : ℕ) (w : Which) (n a : ℕ) → Sized v → irq v i ≡ Request w n a → rankOf v w n < rank
+  pub none-above : (v : Vics) → Sized v → (i : Inputs) (rank : ℕ) (w : Which) (n a : ℕ) → irq v i ≡ Request w n a → rankOf v w n < rank
       → irq (withService v (taken (v .service) rank)) i ≡ Request w n a
+
+-- "reading the current vector address takes the answer into service at its level then .. with none nothing changes": the answer is the one
+-- that is asked for without taking it
+pub record TakesAnswer : Type 0 where
+  pub one : (v : Vics) → Sized v → (i : Inputs) (w : Which) (n a : ℕ) → irq v i ≡ Request w n a
+      → read v i Vic0 0x030 ≡ found a (withService v (taken (v .service) (rankOf v w n)))
+  pub none : (v : Vics) (i : Inputs) → irq v i ≡ None → read v i Vic0 0x030 ≡ found (v .vic0 .default) v

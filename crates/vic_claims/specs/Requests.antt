@@ -1,5 +1,5 @@
 -- 02, Wish 8: a request of the interrupt controllers by itself, and what is in service. Assumes nothing.
-use Prim.Native.Nat.{ℕ, _+_, _<_}
+use Prim.Native.Nat.{ℕ, _+_, _^_, _<_}
 use mathlib.Core.Path.{_≡_}
 use mathlib.Core.Bool.{true, false}
 use lib.Dec.{ltb}
@@ -15,10 +15,11 @@ use Rattle.vic_pair.specs.declared.Which.{Which}
 use Rattle.vic_pair.specs.declared.Which.the-variants.{Vic0, Vic1}
 use Rattle.vic.specs.Access.{controllerOf, levelsOf}
 
--- the lists of a pair are as long as the code's arrays
+-- the lists of a pair are as long as the code's arrays, and its selections as wide as the code's
 pub record Sized (v : Vics) : Type 0 where
   pub controls : (w : Which) → length (controllerOf v w .controls) ≡ 16
   pub service : length (v .service) ≡ 64
+  pub selection : (w : Which) → controllerOf v w .selection < 2 ^ 16
 
 -- a "raised, enabled IRQ request" of a controller's input n: its bit of the IRQ status (4.10.1)
 pub record Requests (v : Vics) (i : Inputs) (w : Which) (n : ℕ) : Type 0 where

@@ -1,10 +1,10 @@
 -- Laws of what each command does, from what the calls that it makes answered. Assumes nothing.
 use Prim.Native.Nat.{ℕ}
-use mathlib.Core.Path.{_≡_, refl}
+use mathlib.Core.Path.{_≡_}
 use mathlib.Core.Bool.{Bool}
 use mathlib.Core.List.{List}
 use borrow.Author.Tests.{eq-eqb, ne-eqb}
-use Rattle.text.specs.Text.{Text, written, put}
+use Rattle.text.specs.Text.{written, put}
 use Rattle.vic_pair.specs.declared.Vics.{Vics}
 use Rattle.vic_pair.specs.declared.Inputs.{Inputs}
 use Rattle.vic_pair.specs.declared.Which.{Which}

@@ -23,11 +23,11 @@ use Rattle.vic_commands.specs.declared.VicTold.{VicTold}
 abbrev pub beside : Vics → Inputs → Controllers
 beside v i = record { vics = v; inputs = i }
 
--- "`new` makes both controllers new too, with all inputs low"; before the first `new` they are so
+-- `new`: "both interrupt controllers are new too, all inputs low"; before the first `new` they are so
 abbrev pub reset : Controllers
 reset = beside resetVics low
 
--- "input 11 of controller 0 is always ENET's line, whatever VALUE says"
+-- "input 11 of controller 0 is always ENET's line"
 abbrev pub levelsAt : Controllers → Bool → Inputs
 levelsAt c line = withLine (c .inputs) line
 
@@ -54,7 +54,7 @@ unfoldable pub vwrite : Controllers → Which → ℕ → ℕ → Said
 vwrite c w offset v =
     let r = writeRegister (c .vics) w offset v in answers (beside (r .vics) (c .inputs)) (vwriteSays (r .number))
 
--- `inputs VIC VALUE`: `inputs`. "the level of that controller's sixteen inputs (.. its low 16 bits ..)"
+-- `inputs VIC VALUE`: `inputs`. "the controller's sixteen inputs have the levels of VALUE's low 16 bits"
 abbrev pub levelsSet : Inputs → Which → ℕ → Inputs
 levelsSet i Vic0 v = levels (v % 2 ^ 16) (i .vic1)
 levelsSet i Vic1 v = levels (i .vic0) (v % 2 ^ 16)

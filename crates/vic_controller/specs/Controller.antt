@@ -20,7 +20,7 @@ made software enable selection protection default addresses controls =
       controls = controls;
     }
 
--- 4.10.4 to 4.10.13, "Reset value: 0000 0000 0000 0000", and sixteen slots
+-- 4.10.4, 4.10.5, 4.10.7, 4.10.9, 4.10.11 to 4.10.13, "Reset value: 0000 0000 0000 0000", and sixteen slots
 abbrev pub reset : Controller
 reset = made 0 0 0 false 0 (replicate 16 0) (replicate 16 0)
 

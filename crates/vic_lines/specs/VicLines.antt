@@ -5,7 +5,6 @@ use mathlib.Core.List.{List}
 use Rattle.words.specs.Words.{characters}
 use Rattle.replies.specs.Replies.{said, either, numbered}
 use Rattle.reports.specs.Reports.{read as readLine}
-use Rattle.vic_pair.specs.declared.Which.{Which}
 use Rattle.vic_pair.specs.declared.Which.the-variants.{Vic0, Vic1}
 use Rattle.vic_answer.specs.declared.Interrupt.{Interrupt}
 use Rattle.vic_answer.specs.declared.Interrupt.the-variants.{None, Request}

@@ -1,17 +1,14 @@
 -- Ranks marked and unmarked in a list. Assumes nothing.
-use Prim.Native.Nat.{ℕ, zero, suc, _≤_, _<_}
-use mathlib.Core.Path.{_≡_, refl, sym, ap, _∙_}
+use Prim.Native.Nat.{ℕ, zero, suc, _<_}
+use mathlib.Core.Path.{_≡_, refl, sym, ap}
 use mathlib.Core.Bool.{Bool, true, false}
 use mathlib.Core.List.{List, [], _∷_}
 use native.Mathlib.Omega.{arith}
 use native.Mathlib.Nat.{not-suc-le-zero, le-of-suc-le-suc}
-use lib.ListN.{length, getD, set, length-set, replicate, length-replicate, getD-replicate}
-use lib.Seq.{getD-set-same}
-use Rattle.rules.specs.Choice.{if_then_else_}
-use Rattle.rules.proofs.Choices.{by-bool}
+use lib.ListN.{getD, replicate}
 use Rattle.first_where.specs.First.{firstWhere}
-use Rattle.first_where.proofs.Laws.{first-within, first-before, first-holds}
-use Rattle.vic_service.specs.Service.{idle, taken, ended, lastTaken}
+use Rattle.first_where.proofs.Laws.{first-before}
+use Rattle.vic_service.specs.Service.{taken, ended, lastTaken}
 use Rattle.vic_nesting.specs.Taken.{lastOf, Falling, marked}
 
 -- unmarked, what was marked is as it was

@@ -1,10 +1,11 @@
 -- No access changes how long a pair's lists are. Assumes nothing.
-use Prim.Native.Nat.{ℕ}
-use mathlib.Core.Path.{_≡_, refl, sym, ap, _∙_}
-use mathlib.Core.Bool.{Bool, true, false}
+use Prim.Native.Nat.{ℕ, _^_, _<_}
+use mathlib.Core.Path.{_≡_, refl, _∙_}
+use mathlib.Core.Bool.{Bool, false}
 use mathlib.Core.List.{List, [], _∷_}
+use native.Mathlib.Omega.{arith}
 use lib.Dec.{eqb}
-use lib.ListN.{length, set, length-set}
+use lib.ListN.{length, length-set}
 use Rattle.rules.proofs.Choices.{by-bool}
 use Rattle.vic_controller.specs.declared.Controller.{Controller}
 use Rattle.vic_registers.specs.declared.Register.{Register}
@@ -24,15 +25,14 @@ use Rattle.vic_registers.specs.declared.Register.the-variants.{
   Unmodelled,
 }
 use Rattle.vic_registers.specs.Access.{registerAt}
-use Rattle.vic_write.specs.Write.{controlKept, written}
+use Rattle.vic_write.specs.Write.{written}
 use Rattle.vic_service.specs.Service.{taken, ended, lastTaken}
 use Rattle.vic_pair.specs.declared.Vics.{Vics}
 use Rattle.vic_pair.specs.declared.Which.{Which}
 use Rattle.vic_pair.specs.declared.Which.the-variants.{Vic0, Vic1}
 use Rattle.vic_pair.specs.Vics.{reset}
-use Rattle.vic_answer.specs.Answer.{raisedRank}
-use Rattle.vic.specs.declared.Change.{Change}
-use Rattle.vic.specs.Access.{controllerOf, withController, cameFrom, withService, answered, writeVector, write}
+use Rattle.vic_answer.specs.Answer.{raisedRank, answered}
+use Rattle.vic.specs.Access.{controllerOf, withController, cameFrom, withService, write}
 use Rattle.vic_claims.specs.Requests.{Sized}
 use Rattle.vic_nesting.specs.Accesses.{Access, reads, writes, after, afterAll}
 use Rattle.vic_nesting.specs.Sizes.{AlwaysSized}
@@ -55,26 +55,53 @@ written-sized c (Address s) x = refl
 written-sized c (Control s) x = simp length-set
 written-sized c Unmodelled x = refl
 
+written-selection : (c : Controller) (a : Register) (x : ℕ) → c .selection < 2 ^ 16 → written c a x .selection < 2 ^ 16
+written-selection c IrqStatus x h = h
+written-selection c FiqStatus x h = h
+written-selection c RawStatus x h = h
+written-selection c Selection x h = omega arith
+written-selection c Enable x h = h
+written-selection c EnableClear x h = h
+written-selection c Software x h = h
+written-selection c SoftwareClear x h = h
+written-selection c Protection x h = h
+written-selection c DefaultVector x h = h
+written-selection c (Address s) x h = h
+written-selection c (Control s) x h = h
+written-selection c Unmodelled x h = h
+
 -- ---- the pair
 
 with-service : (v : Vics) (s : List Bool) → length s ≡ length (v .service) → Sized v → Sized (withService v s)
-with-service v s e z = record { controls = λ w. by-which w; service = e ∙ z .service }
+with-service v s e z = record { controls = λ w. by-which w; service = e ∙ z .service; selection = λ w. narrow w }
   where
     by-which : (w : Which) → length (controllerOf (withService v s) w .controls) ≡ 16
     by-which Vic0 = z .controls Vic0
     by-which Vic1 = z .controls Vic1
 
-with-controller : (v : Vics) (w : Which) (c : Controller) → length (c .controls) ≡ 16 → Sized v → Sized (withController v w c)
-with-controller v Vic0 c e z = record { controls = λ w. by-which w; service = z .service }
+    narrow : (w : Which) → controllerOf (withService v s) w .selection < 2 ^ 16
+    narrow Vic0 = z .selection Vic0
+    narrow Vic1 = z .selection Vic1
+
+with-controller : (v : Vics) (w : Which) (c : Controller) → length (c .controls) ≡ 16 → c .selection < 2 ^ 16 → Sized v → Sized (withController v w c)
+with-controller v Vic0 c e h z = record { controls = λ w. by-which w; service = z .service; selection = λ w. narrow w }
   where
     by-which : (w : Which) → length (controllerOf (withController v Vic0 c) w .controls) ≡ 16
     by-which Vic0 = e
     by-which Vic1 = z .controls Vic1
-with-controller v Vic1 c e z = record { controls = λ w. by-which w; service = z .service }
+
+    narrow : (w : Which) → controllerOf (withController v Vic0 c) w .selection < 2 ^ 16
+    narrow Vic0 = h
+    narrow Vic1 = z .selection Vic1
+with-controller v Vic1 c e h z = record { controls = λ w. by-which w; service = z .service; selection = λ w. narrow w }
   where
     by-which : (w : Which) → length (controllerOf (withController v Vic1 c) w .controls) ≡ 16
     by-which Vic0 = z .controls Vic0
     by-which Vic1 = e
+
+    narrow : (w : Which) → controllerOf (withController v Vic1 c) w .selection < 2 ^ 16
+    narrow Vic0 = z .selection Vic0
+    narrow Vic1 = h
 
 write-other : (v : Vics) (w : Which) (o x : ℕ) → eqb o 0x030 ≡ false
     → write v w o x .vics ≡ withController v w (written (controllerOf v w) (registerAt o) x)
@@ -101,14 +128,19 @@ keeps v z (writes w o x) =
     rw (write-other v w o x u)
     (with-controller v w (written (controllerOf v w) (registerAt o) x)
     (written-sized (controllerOf v w) (registerAt o) x ∙ z .controls w)
+    (written-selection (controllerOf v w) (registerAt o) x (z .selection w))
     z))
 
 at-reset : Sized reset
-at-reset = record { controls = λ w. by-which w; service = refl }
+at-reset = record { controls = λ w. by-which w; service = refl; selection = λ w. narrow w }
   where
     by-which : (w : Which) → length (controllerOf reset w .controls) ≡ 16
     by-which Vic0 = refl
     by-which Vic1 = refl
+
+    narrow : (w : Which) → controllerOf reset w .selection < 2 ^ 16
+    narrow Vic0 = omega arith
+    narrow Vic1 = omega arith
 
 all : (l : List Access) (v : Vics) → Sized v → Sized (afterAll v l)
 all [] v z = z

@@ -1,12 +1,11 @@
 -- From reset on a pair has in service what was taken and not ended, and the lowest of it is the last taken. Assumes nothing.
 use Prim.Native.Nat.{ℕ, _<_}
-use mathlib.Core.Path.{_≡_, refl, sym, ap, _∙_}
+use mathlib.Core.Path.{_≡_, refl, ap, _∙_}
 use mathlib.Core.Bool.{Bool, true, false}
 use mathlib.Core.List.{List, [], _∷_}
 use native.Mathlib.Omega.{arith}
-use lib.Dec.{eqb, ltb}
+use lib.Dec.{eqb}
 use borrow.Author.Tests.{ltb-true}
-use Rattle.rules.specs.Choice.{if_then_else_}
 use Rattle.rules.proofs.Choices.{by-bool}
 use Rattle.vic_registers.specs.Access.{registerAt}
 use Rattle.vic_write.specs.Write.{written}
@@ -15,13 +14,11 @@ use Rattle.vic_pair.specs.declared.Vics.{Vics}
 use Rattle.vic_pair.specs.declared.Inputs.{Inputs}
 use Rattle.vic_pair.specs.declared.Which.{Which}
 use Rattle.vic_pair.specs.declared.Which.the-variants.{Vic0, Vic1}
-use Rattle.vic_answer.specs.Answer.{raisedRank}
-use Rattle.vic.specs.declared.Found.{Found}
-use Rattle.vic.specs.declared.Change.{Change}
-use Rattle.vic.specs.Access.{controllerOf, withController, cameFrom, withService, answered, readVector, writeVector, read, write}
+use Rattle.vic_answer.specs.Answer.{raisedRank, answered}
+use Rattle.vic.specs.Access.{controllerOf, withController, cameFrom, withService, readVector, writeVector, read, write}
 use Rattle.vic_nesting.specs.Accesses.{Access, reads, writes, after}
 use Rattle.vic_nesting.specs.Taken.{withoutLast, told, Progress, begin, next, run, lastOf, Falling, marked, Tells, LastTaken}
-use Rattle.vic_nesting.proofs.Marks.{mark-back, mark-first, not-marked, marked-last}
+use Rattle.vic_nesting.proofs.Marks.{mark-back, not-marked, marked-last}
 
 -- ---- what each access leaves
 

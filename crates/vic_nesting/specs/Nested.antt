@@ -7,8 +7,8 @@ use Rattle.vic_pair.specs.declared.Vics.{Vics}
 use Rattle.vic_pair.specs.declared.Inputs.{Inputs}
 use Rattle.vic_pair.specs.declared.Which.{Which}
 use Rattle.vic_pair.specs.declared.Which.the-variants.{Vic0}
-use Rattle.vic_answer.specs.Answer.{raisedRank}
-use Rattle.vic.specs.Access.{cameFrom, answered}
+use Rattle.vic_answer.specs.Answer.{raisedRank, answered}
+use Rattle.vic.specs.Access.{cameFrom}
 use Rattle.vic_nesting.specs.Accesses.{Access, reads, writes, after, afterAll}
 
 -- a request taken, and one ended
@@ -27,10 +27,21 @@ pub data Nested : Vics → List Access → Type 0 where
       → cameFrom w (raisedRank v i) ≡ true → Nested (after v (take i)) inner
       → Nested (after (afterAll (after v (take i)) inner) (end w value)) l → Nested v (take i ∷ inner ++ end w value ∷ l)
 
+-- every access of a list is a read or a write of a current vector address
+abbrev pub AtVector : Access → Type 0
+AtVector (reads i w offset) = offset ≡ 0x030
+AtVector (writes w offset value) = offset ≡ 0x030
+
+abbrev pub OnlyVectors : List Access → Type 0
+OnlyVectors [] = Unit {0}
+OnlyVectors (a ∷ l) = AtVector a × OnlyVectors l
+
 pub record GivesBack : Type 0 where
   -- any nesting leaves in service what was in service
   pub nested : (v : Vics) (l : List Access) → Nested v l → afterAll v l .service ≡ v .service
-  -- one taken and ended at once leaves the whole state
+  -- and one with no other access in it leaves the whole state
+  pub whole : (v : Vics) (l : List Access) → Nested v l → OnlyVectors l → afterAll v l ≡ v
+  -- so does one taken and ended at once
   pub at-once : (v : Vics) (i : Inputs) (w : Which) (value : ℕ) → answered v i ≡ true → cameFrom w (raisedRank v i) ≡ true
       → after (after v (take i)) (end w value) ≡ v
   -- taking and ending touch no register

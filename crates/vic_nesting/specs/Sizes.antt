@@ -1,5 +1,5 @@
--- Every pair that a list of accesses leads to from reset has lists as long as the code's arrays, so that the claims about the IRQ answer
--- hold of it. Assumes nothing.
+-- Every pair that a list of accesses leads to from reset has lists as long as the code's arrays and selections as wide as the code's, so
+-- that the claims about the IRQ answer, the status words and FIQ hold of it. Assumes nothing.
 use mathlib.Core.List.{List}
 use Rattle.vic_pair.specs.Vics.{reset}
 use Rattle.vic_claims.specs.Requests.{Sized}

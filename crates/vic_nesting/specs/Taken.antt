@@ -12,11 +12,12 @@ use Rattle.vic_pair.specs.declared.Vics.{Vics}
 use Rattle.vic_pair.specs.declared.Which.{Which}
 use Rattle.vic_pair.specs.declared.Which.the-variants.{Vic0, Vic1}
 use Rattle.vic_pair.specs.Vics.{reset}
-use Rattle.vic_answer.specs.Answer.{raisedRank}
-use Rattle.vic.specs.Access.{cameFrom, answered}
+use Rattle.vic_answer.specs.Answer.{raisedRank, answered}
+use Rattle.vic.specs.Access.{cameFrom}
 use Rattle.vic_nesting.specs.Accesses.{Access, reads, writes, after}
 
--- the ranks taken and not ended, the last taken first
+-- ---- the ranks taken and not ended, the last taken first
+
 -- "writing it ends the last taken", where that came from the controller written
 abbrev pub withoutLast : Which → List ℕ → List ℕ
 withoutLast w [] = []

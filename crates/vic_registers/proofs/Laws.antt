@@ -5,7 +5,6 @@ use mathlib.Core.Bool.{Bool, true, false}
 use native.Mathlib.Omega.{arith}
 use lib.Dec.{eqb}
 use borrow.Author.Tests.{le-leb, lt-leb, lt-ltb, le-ltb, ne-eqb}
-use Rattle.vic_registers.specs.declared.Register.{Register}
 use Rattle.vic_registers.specs.declared.Register.the-variants.{Address, Control, Unmodelled}
 use Rattle.vic_registers.specs.Access.{slotAt, slotOf, registerAt}
 

@@ -23,7 +23,7 @@ given command (Is vic) (Is a) (Is b) = Calls (record { command = command; vic = 
 abbrev pub none : Number
 none = Is 0
 
--- "VIC is one digit", 0 or 1
+-- VIC: "`0` or `1`, an interrupt controller"
 unfoldable pub vicOf : List ℕ → Number
 vicOf word =
     if is word (characters "0") then Is 0 else

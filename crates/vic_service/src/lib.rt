@@ -2,8 +2,10 @@
 ghost use mathlib.Core.Path.{_≡_};
 ghost use Rattle.vic_service.specs.Service.{taken, ended, lastTaken};
 
-// How many ranks there are: 32 of each controller.
-const RANKS: usize = 64;
+// How many ranks each controller has, VIC0 the lower ones, and how many there are.
+pub const RANKS_EACH: usize = 32;
+
+pub const RANKS: usize = 64;
 
 // Of each rank, whether it is in service.
 pub type Service = [bool; 64];

@@ -1,14 +1,14 @@
 -- The status words input by input, and FIQ. Assumes nothing.
-use Prim.Native.Nat.{ℕ, _-_, _^_, _≤_, _<_}
-use mathlib.Core.Path.{_≡_, refl, sym, ap, _∙_}
-use mathlib.Core.Bool.{Bool, true, false, not, _&&_, _||_, true≢false}
-use mathlib.Core.Logic.{_⊎_, inl, inr, ⊎-elim}
+use Prim.Native.Nat.{ℕ, _-_, _^_, _<_}
+use mathlib.Core.Path.{_≡_, sym, ap, _∙_}
+use mathlib.Core.Bool.{Bool, true, false, not, _&&_, true≢false}
+use mathlib.Core.Logic.{_⊎_, ⊎-elim}
 use native.Mathlib.Omega.{arith}
 use lib.Dec.{eqb}
-use lib.Bits.{bitAnd, bitOr, and-le-r}
-use borrow.Author.Tests.{eqb-true, eqb-false, ne-eqb}
+use lib.Bits.{and-le-r}
+use borrow.Author.Tests.{ne-eqb}
 use Rattle.rules.specs.Bit.{bit}
-use Rattle.rules.proofs.Choices.{by-bool, either, or-yes, or-last, not-yes}
+use Rattle.rules.proofs.Choices.{by-bool, either}
 use Rattle.vic_controller.specs.declared.Controller.{Controller}
 use Rattle.vic_controller.specs.Controller.{rawStatus, enabledStatus, irqStatus, fiqStatus}
 use Rattle.vic_pair.specs.declared.Vics.{Vics}

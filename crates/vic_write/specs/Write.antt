@@ -53,7 +53,7 @@ withControls c l = made (c .software) (c .enable) (c .selection) (c .protection)
 abbrev pub lowHalf : ℕ → ℕ
 lowHalf v = v % 2 ^ 16
 
--- 4.10.5 and 4.10.7, rs: "Writing 1 sets the corresponding register bit. Writing 0 has no effect."
+-- 4.10.5 and 4.10.7, rs: "Writing 0 has no effect."; 4.10.7: "Writing 1 sets the corresponding register bit."
 abbrev pub bitsSet : ℕ → ℕ → ℕ
 bitsSet old v = bitOr old (lowHalf v)
 

@@ -1,12 +1,11 @@
 -- Only a line whose first word is `new` is the call `new`. Assumes nothing.
 use Prim.Native.Nat.{ℕ}
-use mathlib.Core.Path.{_≡_, refl, sym, _∙_}
-use mathlib.Core.Bool.{Bool, true, false, not, true≢false, false≢true}
+use mathlib.Core.Path.{_≡_, refl}
+use mathlib.Core.Bool.{Bool, true, false, not}
 use mathlib.Core.List.{List}
 use lib.Dec.{ltb}
 use lib.ListN.{length}
 use Rattle.rules.specs.Choice.{if_then_else_}
-use Rattle.rules.proofs.Choices.{by-bool}
 use Rattle.forms.specs.declared.numbers.Number.{Number}
 use Rattle.forms.specs.declared.numbers.Number.the-variants.{Is, Wrong}
 use Rattle.forms.specs.Numbers.{hexadecimal, decimal}
@@ -14,7 +13,7 @@ use Rattle.forms.specs.Pairs.{byteCount}
 use Rattle.pair_words.specs.PairWords.{pairsBehind}
 use Rattle.words.specs.Words.{characters, is, spaced, first, rest}
 use Rattle.script.specs.declared.Command.{Command}
-use Rattle.script.specs.declared.Command.the-variants.{New, Lend, Read, Write, Line, Grant, Frame, Burst, Send, Run, Show, Ring, Poke, Peek, Check, State, Error}
+use Rattle.script.specs.declared.Command.the-variants.{Lend, Read, Write, Line, Grant, Frame, Burst, Send, Run, Show, Ring, Poke, Peek, Check, State}
 use Rattle.script.specs.declared.Call.{Call}
 use Rattle.script.specs.Calls.{noCall, given, none, any, alone, withOne, withTwo, withMore, callOf}
 use Rattle.kinds.specs.Kinds.{renews}
@@ -68,14 +67,10 @@ not-with-more w a words e =
     either-name (is w (characters "burst")) _ _ (not-given Burst (decimal a 66) (pairsBehind words) refl)
     (either-name (spaced words) noCall (withTwo w a words) refl (not-with-two w a words e))
 
-not-new : (line : List ℕ) → is (first line) (characters "new") ≡ false → Not (callOf line)
+pub not-by-name : (line : List ℕ) → is (first line) (characters "new") ≡ false → renews (callOf line .command) ≡ false
 unfolding callOf
-not-new line e =
+not-by-name line e =
     either-name (ltb 4096 (length line)) noCall _ refl
     (either-name (not (spaced line)) (alone line) _ (not-alone line)
     (either-name (not (spaced (rest line))) (withOne (first line) (rest line)) _ (not-with-one (first line) (rest line))
     (not-with-more (first line) (first (rest line)) (rest (rest line)) e)))
-
-pub new-by-name : (line : List ℕ) → renews (callOf line .command) ≡ true → is (first line) (characters "new") ≡ true
-new-by-name line h =
-    by-bool (is (first line) (characters "new")) (λ e. e) (λ e. absurd (true≢false (sym h ∙ not-new line e)))
