@@ -5,7 +5,7 @@ import vic_words
 from vic_words import INPUTS, SLOTS
 
 # registers whose writes set bits of a register, and those whose writes clear them
-SETS = {'INTER': 'INTER', 'SWINTR': 'SWINTR'}
+SETS = ('INTER', 'SWINTR')
 CLEARS = {'INTECR': 'INTER', 'SWINTCR': 'SWINTR'}
 # the bits that are kept of those whose writes are stored
 STORED = {'INTSR': INPUTS, 'PER': 1, 'DVAR': 0xffffffff,
@@ -45,7 +45,7 @@ class Controller:
     def write(self, short, value):
         """A write to any register but the current vector address."""
         if short in SETS:
-            self.registers[SETS[short]] |= value & INPUTS
+            self.registers[short] |= value & INPUTS
         if short in CLEARS:
             self.registers[CLEARS[short]] &= ~value
         if short in STORED:

@@ -7,7 +7,7 @@ import wording
 from engines import Contradiction
 
 ENABLE, STATUS = 0x04, 0x08
-RESET_STATUS, WRITABLE = 0x00050001, 0x92cf82ef
+RESET_STATUS, WRITABLE = 0x00050001, sum(wording.STATUS_BITS.values())
 
 
 class EnetLine:

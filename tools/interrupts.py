@@ -13,7 +13,7 @@ from vic_words import ENET, INPUTS, REGISTERS
 
 NOT_MODELLED = 2
 # behind all ranks
-LAST_RANK = 64
+BEHIND_ALL = 64
 TAKEN, ENDED = 'taken', 'ended'
 
 
@@ -74,7 +74,7 @@ class Interrupts:
 
     def answer(self, line):
         """The highest request above all in service, None where there is none. The last taken is the highest of these."""
-        above = self.service[-1].rank if self.service else LAST_RANK
+        above = self.service[-1].rank if self.service else BEHIND_ALL
         return next((request for request in self.requests(line) if request.rank < above), None)
 
     def vector(self, request):

@@ -21,7 +21,7 @@ use Rattle.vic_commands.specs.declared.Controllers.{Controllers}
 use Rattle.vic_commands.specs.declared.VicTold.{VicTold}
 use Rattle.vic_commands.specs.VicCommands.{reset as resetControllers, answerTo, given as vicGiven, tells as vicTells}
 use Rattle.board.specs.declared.Board.{Board}
-use Rattle.board.proofs.New.{not-by-name}
+use Rattle.kinds.proofs.New.{not-by-name}
 use Rattle.board.specs.Board.{reset, called, renewed, elsewhere, answer, Given, given, tells}
 
 pub reset-both : (c : Console) (v : Controllers) → c ≡ resetConsole → v ≡ resetControllers → record { console = c; controllers = v } ≡ reset
