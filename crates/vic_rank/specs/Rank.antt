@@ -12,8 +12,8 @@ use Rattle.first_where.specs.First.{firstWhere}
 unfoldable pub names : ℕ → ℕ → Bool
 names input control = bit 5 control && eqb (control % 16) input
 
--- the slot of an input: the first whose control is enabled and names it, or how many slots there are, 16, where none does. 4.10.12: "VecAddr0 has the highest
--- priority, VecAddr15 has the lowest priority"
+-- the slot of an input: the first whose control is enabled and names it, or how many slots there are, 16, where none does. 4.10.12:
+-- "VecAddr0 has the highest priority, VecAddr15 has the lowest priority"
 abbrev pub slotOf : List ℕ → ℕ → ℕ
 slotOf controls input = firstWhere (names input) controls
 
