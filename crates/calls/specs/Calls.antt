@@ -9,6 +9,7 @@ use Rattle.enet.specs.Access.{write}
 use Rattle.enet.specs.Frames.{grant, receive}
 use Rattle.enet.specs.Send.{Sending, send}
 use Rattle.enet.specs.Run.{Running, run}
+use Rattle.enet.specs.Tick.{tick}
 use Rattle.pair.specs.declared.Pair.{Pair}
 use Rattle.pair.specs.Turn.{Bursting}
 use Rattle.burst.specs.Burst.{burstOf}
@@ -30,6 +31,8 @@ pub data Call : Type 0 where
   burstCall : (store starts lengths answers : List ℕ) → Call
   sendCall : (output : List ℕ) → Call
   stepRun : (output : List ℕ) (allowance : ℕ) → Call
+  -- 02, Wish 9
+  tickCall : Call
 
 -- what a call gives: its number (0 where it has none), the bench that it leaves, a value (that a look sees, or how many bytes
 -- were sent), the steps of a step run, bytes (the output of a send, or what a look sees), the answers of its receives, in
@@ -50,9 +53,9 @@ answered n b = record { number = n; bench = b; value = 0; steps = 0; bytes = [];
 abbrev pub ofLook : Bench → Seen → Result
 ofLook b s = record { number = s .number; bench = b; value = s .value; steps = 0; bytes = s .bytes; answers = []; list = [] }
 
--- a register access lends no memory
-abbrev pub ofWrite : Bench → Answered → Result
-ofWrite b a = answered (a .number) (record { device = a .device; memory = b .memory })
+-- a register access lends no memory, and a tick writes none
+abbrev pub ofAnswered : Bench → Answered → Result
+ofAnswered b a = answered (a .number) (record { device = a .device; memory = b .memory })
 
 abbrev pub ofGrant : Outcome → Result
 ofGrant o = answered (o .number) (record { device = o .device; memory = o .memory })
@@ -104,10 +107,11 @@ ofRunning r = record {
 
 abbrev pub call : Bench → Call → Result
 call b (looks look) = ofLook b (sees (b .device) (b .memory) look)
-call b (registerWrite offset value) = ofWrite b (write (b .device) offset value)
+call b (registerWrite offset value) = ofAnswered b (write (b .device) offset value)
 call b (grantCall address) = ofGrant (grant (b .device) (b .memory) address)
 call b (receiveCall frame) = ofReceive (receive (b .device) (b .memory) frame)
 call b (burstCall store starts lengths answers) =
     ofBurst store (taken starts lengths answers) (burstOf (b .device) (b .memory) store starts lengths answers)
 call b (sendCall output) = ofSending (send (b .device) (b .memory) output)
 call b (stepRun output allowance) = ofRunning (run (b .device) (b .memory) output allowance)
+call b tickCall = ofAnswered b (tick (b .device) (b .memory))

@@ -3,7 +3,7 @@
 use Prim.Native.Nat.{ℕ}
 use mathlib.Core.List.{List, [], _∷_}
 use Rattle.burst.specs.Taken.{taken, framesInside}
-use Rattle.calls.specs.Calls.{Call, looks, registerWrite, grantCall, receiveCall, burstCall, sendCall, stepRun}
+use Rattle.calls.specs.Calls.{Call, looks, registerWrite, grantCall, receiveCall, burstCall, sendCall, stepRun, tickCall}
 
 pub record Handed : Type 0 where
   -- the registers that it writes, if it is not refused
@@ -42,3 +42,4 @@ handed (receiveCall frame) = theFrames (frame ∷ []) []
 handed (burstCall store starts lengths answers) = theFrames (framesInside store (taken starts lengths answers)) answers
 handed (sendCall output) = anOutput output
 handed (stepRun output allowance) = anOutput output
+handed tickCall = none

@@ -12,8 +12,8 @@ use Rattle.calls.specs.Calls.{Bench, receiveCall, burstCall, call}
 use Rattle.inputs.specs.Receives.{afterReceives}
 use Rattle.inputs.proofs.Receives.{single-receives}
 use Rattle.changes.specs.Regions.{Region, delivery, deliveries, Outside, SameOutside}
-use Rattle.enet.specs.Device.{withRx}
-use Rattle.changes.specs.Parts.{statusOf, ReceiveOnly, Raises, unchanged, receiveBits, StatusRaised}
+use Rattle.enet.specs.Device.{withCounters, withRx}
+use Rattle.changes.specs.Parts.{statusOf, receiveCounters, ReceiveOnly, Raises, unchanged, receiveBits, StatusRaised}
 use Rattle.changes.proofs.Memories.{MemoryKept, same, both, delivered-kept}
 use Rattle.changes.proofs.Devices.{receive-parts}
 use Rattle.changes.proofs.Statuses.{receive-status}
@@ -54,7 +54,7 @@ receives-kept (frame ∷ frames) b =
 
 follows : (d e f : Enet) → ReceiveOnly d e → ReceiveOnly e f → ReceiveOnly d f
 follows d e f p q = record {
-  others = q .others ∙ ap (λ x. withRx (statusOf x f) (f .registers .rx)) (p .others);
+  others = q .others ∙ ap (λ x. withCounters (withRx (statusOf x f) (f .registers .rx)) (receiveCounters (x .counters) (f .counters))) (p .others);
   engine = record { start = q .engine .start ∙ p .engine .start; next = q .engine .next ∙ p .engine .next };
 }
 

@@ -10,17 +10,17 @@ use Rattle.enet.specs.declared.Enet.{Enet}
 use Rattle.enet.specs.Access.{read}
 use Rattle.enet.specs.Send.{send}
 use Rattle.enet.specs.Run.{Running, sends, run}
-use Rattle.calls.specs.Calls.{Bench, Call, looks, registerWrite, grantCall, receiveCall, burstCall, sendCall, stepRun}
+use Rattle.calls.specs.Calls.{Bench, Call, looks, registerWrite, grantCall, receiveCall, burstCall, sendCall, stepRun, tickCall}
 use Rattle.enet.proofs.Sends.{send-unsent}
 use Rattle.changes.specs.Nowhere.{Kept, NowhereElse}
 use Rattle.enet.proofs.Ways.{by-grant, by-receive}
 use Rattle.outputs.proofs.Sends.{send-front, send-size}
 use Rattle.changes.proofs.Memories.{same, grant-kept, receive-kept, send-kept, run-kept}
 use Rattle.outputs.proofs.Outputs.{run-front}
-use Rattle.changes.proofs.Devices.{write-parts, receive-parts, send-parts, run-parts}
+use Rattle.changes.proofs.Devices.{write-parts, receive-parts, send-parts, run-parts, tick-parts}
 use Rattle.burst.proofs.Laws.{length-burst}
 use Rattle.changes.proofs.Bursts.{burst-kept, burst-refused, burst-parts, burst-status}
-use Rattle.changes.proofs.Statuses.{receive-status, send-status, run-status}
+use Rattle.changes.proofs.Statuses.{receive-status, send-status, run-status, tick-status}
 
 -- ---- a refusal changes no byte
 
@@ -72,6 +72,7 @@ kept b (stepRun output allowance) = record {
       z;
   device = run-parts (b .device) (b .memory) output allowance;
 }
+kept b tickCall = record { memory = same _ _; refused = λ n z. refl; device = tick-parts (b .device) (b .memory) }
 
 read-device : (d : Enet) (offset : ℕ) → read d offset .device ≡ d
 unfolding read
@@ -89,4 +90,5 @@ changes-nowhere-else = record {
   burstList = λ b store starts lengths answers. length-burst (b .device) (b .memory) store starts lengths answers;
   sendStatus = λ b output. send-status (b .device) (b .memory) output;
   runStatus = run-status;
+  tickStatus = tick-status;
 }

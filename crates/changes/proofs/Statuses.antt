@@ -1,4 +1,4 @@
--- Which status bits receiving and sending set. Assumes nothing.
+-- Which status bits receiving, sending and a tick set. Assumes nothing.
 use Prim.Native.Nat.{ℕ, zero, suc}
 use mathlib.Core.Path.{refl}
 use mathlib.Core.List.{List}
@@ -7,13 +7,13 @@ use Rattle.rules.proofs.Choices.{by-test}
 use Rattle.descriptor.specs.Descriptor.{nextEnabled}
 use Rattle.enet.specs.declared.Enet.{Enet}
 use Rattle.registers.specs.declared.Registers.{Registers}
-use Rattle.registers.specs.Registers.{txCurrDone, txDone, rxCurrDone, rxDone, packetLost}
+use Rattle.registers.specs.Registers.{txCurrDone, txDone, rxCurrDone, rxDone, packetLost, txTo}
 use Rattle.outcomes.specs.Outcomes.{rxAdvanced, txAdvanced}
 use Rattle.enet.specs.Send.{send}
 use Rattle.enet.specs.Run.{Running, sends, run}
-use Rattle.calls.specs.Calls.{Bench, receiveCall, stepRun}
-use Rattle.changes.specs.Parts.{Raises, unchanged, thenSet, receiveBits, sendBits, StatusRaised}
-use Rattle.enet.proofs.Ways.{by-receive, by-send}
+use Rattle.calls.specs.Calls.{Bench, receiveCall, stepRun, tickCall}
+use Rattle.changes.specs.Parts.{Raises, unchanged, thenSet, receiveBits, sendBits, tickBits, StatusRaised}
+use Rattle.enet.proofs.Ways.{by-receive, by-send, by-tick}
 
 pub both : {masks : List ℕ} {i j k : ℕ} → Raises masks i j → Raises masks j k → Raises masks i k
 both p unchanged = p
@@ -51,3 +51,8 @@ run-status b output allowance =
     by-test (λ (r : Running). Raises sendBits (b .device .registers .isr) (r .device .registers .isr)) (ltb 4096 allowance) _ _
     (λ _. unchanged)
     (λ _. sends-status allowance (b .device) (b .memory) output)
+
+pub tick-status : (b : Bench) → StatusRaised tickBits b tickCall
+tick-status b =
+    by-tick (λ a. Raises tickBits (b .device .registers .isr) (a .device .registers .isr)) (b .device) (b .memory)
+    unchanged unchanged (thenSet txTo refl unchanged) unchanged

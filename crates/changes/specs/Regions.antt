@@ -8,7 +8,7 @@ use lib.ListN.{length, getD}
 use Rattle.rules.specs.Choice.{if_then_else_}
 use Rattle.window.specs.Window.{offset}
 use Rattle.descriptor.specs.Descriptor.{start}
-use Rattle.calls.specs.Calls.{Bench, Call, looks, registerWrite, grantCall, receiveCall, burstCall, sendCall, stepRun, call}
+use Rattle.calls.specs.Calls.{Bench, Call, looks, registerWrite, grantCall, receiveCall, burstCall, sendCall, stepRun, tickCall, call}
 use Rattle.calls.specs.Handed.{handed}
 use Rattle.outputs.specs.Runs.{Stand, begins, single, further}
 
@@ -60,6 +60,7 @@ regions b (burstCall store starts lengths answers) = deliveries b (handed (burst
 -- "It marks the descriptor returned"
 regions b (sendCall output) = statusWord b (b .device .registers .tx .place) ∷ []
 regions b (stepRun output allowance) = sentWords (call b (stepRun output allowance) .steps) (begins b output)
+regions b tickCall = []
 
 -- the byte at an offset lies in none of these
 abbrev pub Outside : ℕ → List Region → Type 0

@@ -6,7 +6,8 @@ use Rattle.granting.specs.Granting.{Granted}
 use Rattle.receiving.specs.Receive as receiving
 use Rattle.receiving.specs.Receive.{Received}
 use Rattle.enet.specs.declared.Enet.{Enet}
-use Rattle.enet.specs.Device.{withRegisters, Outcome, leaves}
+use Rattle.counters.specs.Counters.{afterReceive}
+use Rattle.enet.specs.Device.{after, Outcome, leaves}
 
 -- a grant leaves the device as it is
 abbrev pub ofGranted : Enet → Granted → Outcome
@@ -15,9 +16,9 @@ ofGranted d g = leaves (g .number) d (g .memory)
 unfoldable pub grant : Enet → List ℕ → ℕ → Outcome
 grant d m address = ofGranted d (granting.grant (d .base) (d .window) m address)
 
--- a receive leaves the window's base and length as they are
+-- a receive leaves the window's base and length as they are, and is counted by its number (02, Wish 9)
 abbrev pub ofReceived : Enet → Received → Outcome
-ofReceived d o = leaves (o .number) (withRegisters d (o .registers)) (o .memory)
+ofReceived d o = leaves (o .number) (after d (o .registers) (afterReceive (o .number) (d .counters))) (o .memory)
 
 unfoldable pub receive : Enet → List ℕ → List ℕ → Outcome
 receive d m f = ofReceived d (receiving.receive (d .base) (d .window) (d .registers) m f)

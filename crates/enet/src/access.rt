@@ -24,9 +24,12 @@ impl Enet {
         ensures { λ r. ⌜ r ≡ write self offset v ⌝ }
     {
         let change = register_write::write(self.registers, offset, v);
+        let next = change.registers;
+        let counters = self.counters;
+        let ticks = ticking::after_write(change.number, offset, next.txtor, counters.ticks);
         Answered {
             number: change.number,
-            device: self.with_registers(change.registers),
+            device: self.after(next, counters.with_ticks(ticks)),
         }
     }
 

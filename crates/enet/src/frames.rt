@@ -24,9 +24,10 @@ impl Enet {
         ensures { λ r. ⌜ outcome r (now (memory .exit)) ≡ receive self (now (memory .entry)) (now (frame .entry)) ⌝ }
     {
         let change = receiving::receive(self.base, self.window, self.registers, memory, frame);
+        let counters = self.counters;
         Answered {
             number: change.number,
-            device: self.with_registers(change.registers),
+            device: self.after(change.registers, counters.after_receive(change.number)),
         }
     }
 
@@ -35,10 +36,11 @@ impl Enet {
         ensures { λ r. ⌜ sending r (now (memory .exit)) (now (output .exit)) ≡ send self (now (memory .entry)) (now (output .entry)) ⌝ }
     {
         let sent = sending::send(self.base, self.window, self.registers, memory, output);
+        let counters = self.counters;
         Sent {
             number: sent.number,
             count: sent.count,
-            device: self.with_registers(sent.registers),
+            device: self.after(sent.registers, counters.after_send(sent.number)),
         }
     }
 }

@@ -32,6 +32,7 @@ use Rattle.receiving.specs.Receive as receiving
 use Rattle.receiving.specs.Receive.{receiveAt}
 use Rattle.calls.specs.Calls.{Bench, grantCall, receiveCall}
 use Rattle.links.specs.Links.{follow}
+use Rattle.counters.specs.Counters as counters
 use Rattle.steps.specs.Steps.{brings, Step, publicCall, begin, afterSteps}
 use Rattle.steps.specs.Start.{Start, Obeys}
 use Rattle.history.specs.Claim.{Passes, Lost, deliveredBy, Claim}
@@ -41,7 +42,7 @@ use Rattle.examples.proofs.Examples.{first, ring, granting, coming, rin
 -- the ring of one in mode 001b, receive-all off, with bit 3 of multicast hash low and no other
 abbrev byHash : Bench
 byHash = record {
-  device = made first 1536 (written (written (ring 1 .device .registers) Mcr 0x0002_0000) Mcla 0x0000_0008);
+  device = made first 1536 (written (written (ring 1 .device .registers) Mcr 0x0002_0000) Mcla 0x0000_0008) counters.reset;
   memory = ring 1 .memory;
 }
 

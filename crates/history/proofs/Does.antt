@@ -4,7 +4,7 @@ use mathlib.Core.Path.{_≡_, refl, sym, subst}
 use mathlib.Core.List.{List, [], _++_, append-nil}
 use native.Mathlib.Nat.{not-suc-le-zero}
 use lib.ListN.{length}
-use Rattle.calls.specs.Calls.{Bench, looks, registerWrite, grantCall, receiveCall, burstCall, sendCall, stepRun}
+use Rattle.calls.specs.Calls.{Bench, looks, registerWrite, grantCall, receiveCall, burstCall, sendCall, stepRun, tickCall}
 use Rattle.inputs.specs.Receives.{afterReceives, receiveAnswers}
 use Rattle.inputs.proofs.Receives.{single-receives}
 use Rattle.steps.specs.Steps.{Step, publicCall, firmwareWrite, step, grantsOf, framesOf, answersOf, countedAll, Progress, afterStep}
@@ -13,7 +13,7 @@ use Rattle.history.specs.Claim.{Met}
 use Rattle.steps.proofs.Places.{RingSound}
 use Rattle.steps.proofs.Invariant.{InvP}
 use Rattle.history.proofs.Counts.{Moved, moved-none}
-use Rattle.steps.proofs.Steps.{look-keeps, write-keeps, grant-keeps, send-keeps, run-keeps, firmware-keeps}
+use Rattle.steps.proofs.Steps.{look-keeps, write-keeps, grant-keeps, send-keeps, run-keeps, tick-keeps, firmware-keeps}
 use Rattle.steps.proofs.Arrivals.{passes, InvB}
 use Rattle.history.proofs.Frames.{all-kept, all-moved, MetIn, all-met}
 
@@ -73,4 +73,5 @@ module _ {b : Bench} {n first : ℕ} {sound : RingSound b n first} (p : Progress
       let r = single-receives (p .bench) store starts lengths answers in received _ refl (r .bench) (r .answers)
   does (publicCall (sendCall output)) permit = silent _ refl refl (send-keeps p i output)
   does (publicCall (stepRun output allowance)) permit = silent _ refl refl (run-keeps p i output allowance)
+  does (publicCall tickCall) permit = silent _ refl refl (tick-keeps p i)
   does (firmwareWrite at bytes) permit = silent _ refl refl (firmware-keeps p i at bytes permit)

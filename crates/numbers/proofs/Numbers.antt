@@ -2,9 +2,9 @@
 use mathlib.Core.Path.{_≡_, refl}
 use mathlib.Core.Bool.{true}
 use mathlib.Core.List.{[], _∷_}
-use Rattle.enet.proofs.Ways.{by-grant, by-receive}
+use Rattle.enet.proofs.Ways.{by-grant, by-receive, by-tick}
 use Rattle.calls.specs.Looks.{Look, registerRead, lineRead, readingNumberCall, readingCall, ringCheck, sees}
-use Rattle.calls.specs.Calls.{Bench, Call, looks, registerWrite, grantCall, receiveCall, burstCall, sendCall, stepRun, call}
+use Rattle.calls.specs.Calls.{Bench, Call, looks, registerWrite, grantCall, receiveCall, burstCall, sendCall, stepRun, tickCall, call}
 use Rattle.changes.specs.OneOf.{oneOf}
 use Rattle.changes.proofs.Branches.{by-new, by-read, by-write, by-reading}
 use Rattle.inputs.proofs.Receives.{pair-by-pair}
@@ -38,6 +38,7 @@ among b (receiveCall frame) =
 among b (burstCall store starts lengths answers) = burst-number b store starts lengths answers
 among b (sendCall output) = send-number (b .device) (b .memory) output
 among b (stepRun output allowance) = run-number (b .device) (b .memory) output allowance
+among b tickCall = by-tick (λ a. oneOf (a .number) (0 ∷ numbers tickCall) ≡ true) (b .device) (b .memory) refl refl refl refl
 
 -- ---- and none is greater than the greatest
 
@@ -58,6 +59,7 @@ all-small (receiveCall frame) = refl
 all-small (burstCall store starts lengths answers) = refl
 all-small (sendCall output) = refl
 all-small (stepRun output allowance) = refl
+all-small tickCall = refl
 
 pub numbers-of : NumbersOf
 numbers-of = record {

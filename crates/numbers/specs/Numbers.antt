@@ -8,7 +8,7 @@ use mathlib.Core.List.{List, [], _∷_}
 use Rattle.enet.specs.Device.{new}
 use Rattle.pair.specs.Pair.{passes}
 use Rattle.calls.specs.Looks.{Look, registerRead, lineRead, readingNumberCall, readingCall, ringCheck}
-use Rattle.calls.specs.Calls.{Bench, Call, looks, registerWrite, grantCall, receiveCall, burstCall, sendCall, stepRun, call}
+use Rattle.calls.specs.Calls.{Bench, Call, looks, registerWrite, grantCall, receiveCall, burstCall, sendCall, stepRun, tickCall, call}
 use Rattle.inputs.specs.Receives.{EachPair}
 use Rattle.changes.specs.OneOf.{oneOf}
 
@@ -42,6 +42,8 @@ numbers (receiveCall frame) = receiveNumbers
 numbers (burstCall store starts lengths answers) = 16 ∷ []
 numbers (sendCall output) = sendNumbers
 numbers (stepRun output allowance) = 10 ∷ sendNumbers
+-- 02, Wish 9: "refused only by 11"
+numbers tickCall = 11 ∷ []
 
 -- the greatest number that a call on the bench answers
 abbrev pub greatest : ℕ

@@ -1,14 +1,14 @@
 -- What each call leaves if it is refused: the theorem. Assumes nothing.
 use mathlib.Core.Path.{_≡_, refl}
 use mathlib.Core.Logic.{_≢_}
-use Rattle.calls.specs.Calls.{Bench, Call, looks, registerWrite, grantCall, receiveCall, burstCall, sendCall, stepRun, call}
+use Rattle.calls.specs.Calls.{Bench, Call, looks, registerWrite, grantCall, receiveCall, burstCall, sendCall, stepRun, tickCall, call}
 use Rattle.changes.proofs.Branches.{by-new}
 use Rattle.changes.proofs.Nowhere.{changes-nowhere-else}
 use Rattle.inputs.proofs.Receives.{pair-by-pair}
 use Rattle.refusals.specs.Rows.{rowOfNew}
 use Rattle.refusals.specs.Refusals.{ByRow, whole, RefusedLeaves}
 use Rattle.refusals.proofs.Looks.{look-row}
-use Rattle.refusals.proofs.Refused.{write-row, grant-row, receive-row, send-row, run-row}
+use Rattle.refusals.proofs.Refused.{write-row, grant-row, receive-row, send-row, run-row, tick-row}
 use Rattle.refusals.proofs.Bursts.{burst-row, pair-row}
 use Rattle.refusals.proofs.Readings.{reading-row}
 
@@ -20,6 +20,7 @@ says b (receiveCall frame) n = whole (receive-row b frame n)
 says b (burstCall store starts lengths answers) n = whole (burst-row b store starts lengths answers n)
 says b (sendCall output) n = whole (send-row b output n)
 says b (stepRun output allowance) n = run-row b output allowance n
+says b tickCall n = whole (tick-row b n)
 
 pub refused-leaves : RefusedLeaves
 refused-leaves = record {

@@ -9,8 +9,8 @@ use Rattle.engine_write.specs.EngineWrite.{startWritten, nextWritten}
 use Rattle.registers.specs.declared.Registers.{Registers}
 use Rattle.registers.specs.declared.Change.{Change}
 use Rattle.registers.specs.declared.Register.{Register}
-use Rattle.registers.specs.declared.Register.the-variants.{Ier, Isr, RxStart, RxNext, TxStart, TxNext, Mcr, Mah, Mal, Mcha, Mcla, Unmodelled}
-use Rattle.registers.specs.Registers.{withStatus, withEnable, withFilter, withRx, withTx}
+use Rattle.registers.specs.declared.Register.the-variants.{Ier, Isr, RxStart, RxNext, TxStart, TxNext, TxTimeout, Mcr, Mah, Mal, Mcha, Mcla, Unmodelled}
+use Rattle.registers.specs.Registers.{withStatus, withEnable, withFilter, withRx, withTx, withTxtor}
 use Rattle.registers.specs.Access.{registerAt}
 use Rattle.writable.specs.Writable.{kept}
 
@@ -27,6 +27,7 @@ stored r RxStart v = withRx r (startWritten (r .rx) v)
 stored r RxNext v = withRx r (nextWritten (r .rx) v)
 stored r TxStart v = withTx r (startWritten (r .tx) v)
 stored r TxNext v = withTx r (nextWritten (r .tx) v)
+stored r TxTimeout v = withTxtor r v
 stored r Mcr v = withFilter r (withMcr (r .filter) v)
 stored r Mah v = withFilter r (withMah (r .filter) v)
 stored r Mal v = withFilter r (withMal (r .filter) v)
@@ -47,6 +48,7 @@ writeNumber receiving sending RxStart = 0
 writeNumber receiving sending RxNext = if receiving then 15 else 0
 writeNumber receiving sending TxStart = 0
 writeNumber receiving sending TxNext = if sending then 15 else 0
+writeNumber receiving sending TxTimeout = 0
 writeNumber receiving sending Mcr = 0
 writeNumber receiving sending Mah = 0
 writeNumber receiving sending Mal = 0

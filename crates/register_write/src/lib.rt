@@ -49,6 +49,10 @@ fn stored(r: Registers, register: Register, v: u32) -> Registers
             next.tx = e;
             next
         }
+        Register::TxTimeout => {
+            next.txtor = v;
+            next
+        }
         Register::Mcr => {
             next.filter.mcr = v;
             next
@@ -92,6 +96,7 @@ fn write_number(receiving: bool, sending: bool, register: Register) -> u32
         } else {
             answer::DONE
         },
+        Register::TxTimeout => answer::DONE,
         Register::Mcr => answer::DONE,
         Register::Mah => answer::DONE,
         Register::Mal => answer::DONE,

@@ -6,10 +6,11 @@ use Rattle.rules.specs.Choice.{if_then_else_}
 use Rattle.registers.specs.declared.Registers.{Registers}
 use Rattle.registers.specs.declared.Found.{Found}
 use Rattle.registers.specs.declared.Register.{Register}
-use Rattle.registers.specs.declared.Register.the-variants.{Ier, Isr, RxStart, RxNext, TxStart, TxNext, Mcr, Mah, Mal, Mcha, Mcla, Unmodelled}
+use Rattle.registers.specs.declared.Register.the-variants.{Ier, Isr, RxStart, RxNext, TxStart, TxNext, TxTimeout, Mcr, Mah, Mal, Mcha, Mcla, Unmodelled}
 
 -- "Modelled: interrupt status and enable, receive and send start, receive and send next descriptor, MAC control, MAC
--- address high and low": by offset. 02, of the hash registers: "these registers leave row 2's reach"
+-- address high and low": by offset. 02, of the hash registers: "these registers leave row 2's reach"; Wish 9: "ENET_TXTOR
+-- (offset 48h) joins the modelled registers"
 unfoldable pub registerAt : ℕ → Register
 registerAt offset =
     if eqb offset 0x04 then Ier else
@@ -18,6 +19,7 @@ registerAt offset =
     if eqb offset 0x1c then RxNext else
     if eqb offset 0x30 then TxStart else
     if eqb offset 0x3c then TxNext else
+    if eqb offset 0x48 then TxTimeout else
     if eqb offset 0x400 then Mcr else
     if eqb offset 0x404 then Mah else
     if eqb offset 0x408 then Mal else
@@ -33,6 +35,7 @@ valueOf r RxStart = r .rx .start
 valueOf r RxNext = r .rx .next
 valueOf r TxStart = r .tx .start
 valueOf r TxNext = r .tx .next
+valueOf r TxTimeout = r .txtor
 valueOf r Mcr = r .filter .mcr
 valueOf r Mah = r .filter .mah
 valueOf r Mal = r .filter .mal
@@ -48,6 +51,7 @@ readNumber RxStart = 0
 readNumber RxNext = 0
 readNumber TxStart = 0
 readNumber TxNext = 0
+readNumber TxTimeout = 0
 readNumber Mcr = 0
 readNumber Mah = 0
 readNumber Mal = 0

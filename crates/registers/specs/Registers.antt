@@ -13,29 +13,33 @@ use Rattle.registers.specs.declared.Registers.{Registers}
 -- ---- one part changed, the others kept
 
 -- the registers, part by part: every change below is made by it
-abbrev pub made : ℕ → ℕ → Filter → Engine → Engine → Registers
-made isr ier filter rx tx = record { isr = isr; ier = ier; filter = filter; rx = rx; tx = tx }
+abbrev pub made : ℕ → ℕ → Filter → Engine → Engine → ℕ → Registers
+made isr ier filter rx tx txtor = record { isr = isr; ier = ier; filter = filter; rx = rx; tx = tx; txtor = txtor }
 
 abbrev pub withStatus : Registers → ℕ → Registers
-withStatus r v = made v (r .ier) (r .filter) (r .rx) (r .tx)
+withStatus r v = made v (r .ier) (r .filter) (r .rx) (r .tx) (r .txtor)
 
 abbrev pub withEnable : Registers → ℕ → Registers
-withEnable r v = made (r .isr) v (r .filter) (r .rx) (r .tx)
+withEnable r v = made (r .isr) v (r .filter) (r .rx) (r .tx) (r .txtor)
 
 abbrev pub withFilter : Registers → Filter → Registers
-withFilter r f = made (r .isr) (r .ier) f (r .rx) (r .tx)
+withFilter r f = made (r .isr) (r .ier) f (r .rx) (r .tx) (r .txtor)
 
 abbrev pub withRx : Registers → Engine → Registers
-withRx r e = made (r .isr) (r .ier) (r .filter) e (r .tx)
+withRx r e = made (r .isr) (r .ier) (r .filter) e (r .tx) (r .txtor)
 
 abbrev pub withTx : Registers → Engine → Registers
-withTx r e = made (r .isr) (r .ier) (r .filter) (r .rx) e
+withTx r e = made (r .isr) (r .ier) (r .filter) (r .rx) e (r .txtor)
+
+-- the send time-out (02, Wish 9)
+abbrev pub withTxtor : Registers → ℕ → Registers
+withTxtor r v = made (r .isr) (r .ier) (r .filter) (r .rx) (r .tx) v
 
 -- ---- reset
 
 -- "Offsets, reset values and read-only bits are those of chapter 8"
 abbrev pub reset : Registers
-reset = made 0x0005_0001 0 (filterOf 0 0x0000_ffff 0xffff_ffff 0 0) (engineReset 0 0) (engineReset 0 0)
+reset = made 0x0005_0001 0 (filterOf 0 0x0000_ffff 0xffff_ffff 0 0) (engineReset 0 0) (engineReset 0 0) 0
 
 -- ---- the status bits that the base raises, as chapter 8 numbers them
 
@@ -53,6 +57,10 @@ rxDone = 0x0000_0080
 
 abbrev pub packetLost : ℕ
 packetLost = 0x0000_0020
+
+-- and the one that a tick raises (02, Wish 9): "the RX_TO in its text is a slip for TX_TO"
+abbrev pub txTo : ℕ
+txTo = 0x0008_0000
 
 -- a status bit set; one that is set stays set
 abbrev pub raised : Registers → ℕ → Registers

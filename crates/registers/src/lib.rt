@@ -6,13 +6,14 @@ ghost use Rattle.registers.specs.Registers.{reset, interruptLine};
 use engine::Engine;
 use filter::Filter;
 
-// Interrupt status and enable, the filter registers, and an engine for each direction with its two registers.
+// Interrupt status and enable, the filter registers, an engine for each direction with its two registers, and the send time-out.
 pub struct Registers {
     pub isr: u32,
     pub ier: u32,
     pub filter: Filter,
     pub rx: Engine,
     pub tx: Engine,
+    pub txtor: u32,
 }
 
 // The modelled registers, and one case for every other offset.
@@ -23,6 +24,7 @@ pub enum Register {
     RxNext,
     TxStart,
     TxNext,
+    TxTimeout,
     Mcr,
     Mah,
     Mal,
@@ -57,6 +59,8 @@ impl Registers {
 
     pub const TXNDAR: u32 = 0x3c;
 
+    pub const TXTOR: u32 = 0x48;
+
     pub const MCR: u32 = 0x400;
 
     pub const MAH: u32 = 0x404;
@@ -79,6 +83,8 @@ impl Registers {
     pub const TXSTR_RESET: u32 = 0x0000_0000;
 
     pub const TXNDAR_RESET: u32 = 0x0000_0000;
+
+    pub const TXTOR_RESET: u32 = 0x0000_0000;
 
     pub const MCR_RESET: u32 = 0x0000_0000;
 
@@ -103,6 +109,8 @@ impl Registers {
 
     pub const TXNDAR_WRITABLE: u32 = 0xffff_fffd;
 
+    pub const TXTOR_WRITABLE: u32 = 0x0000_ffff;
+
     pub const MCR_WRITABLE: u32 = 0xc3ff_9ffd;
 
     pub const MAH_WRITABLE: u32 = 0x0000_ffff;
@@ -124,6 +132,9 @@ impl Registers {
 
     pub const PACKET_LOST: u32 = 0x0000_0020;
 
+    // The one that a tick raises.
+    pub const TX_TO: u32 = 0x0008_0000;
+
     // The reset state.
     pub fn reset() -> Registers
         ensures { λ r. ⌜ r ≡ reset ⌝ }
@@ -143,6 +154,7 @@ impl Registers {
             filter,
             rx,
             tx,
+            txtor: Registers::TXTOR_RESET,
         }
     }
 

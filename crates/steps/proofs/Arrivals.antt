@@ -74,7 +74,7 @@ module _ (b : Bench) (n first : ℕ) (sound : RingSound b n first) where
     comes-by (yes h) (no k) =
         let o = i .held .order in
         let r = lost-now i f h (omega arith) in
-        let lost = keeps (same-but-interrupts (c .device) _ _) (same-ring b n first sound (c .memory)) i in
+        let lost = keeps (same-but-interrupts (c .device) _ _ _) (same-ring b n first sound (c .memory)) i in
         record { came = rw r lost; count = rw (r, h, le-ltb v (length gs) (omega arith)) }
     comes-by (yes h) (yes k) =
         let r = taken-now i f h k in

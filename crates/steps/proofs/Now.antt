@@ -1,6 +1,6 @@
 -- What the invariant says of the device, the memory and the three ways of a frame. Assumes nothing.
 use Prim.Native.Nat.{ℕ, suc, _+_, _≤_, _<_}
-use mathlib.Core.Path.{_≡_, sym, ap, _∙_}
+use mathlib.Core.Path.{_≡_, refl, sym, ap, _∙_}
 use mathlib.Core.Logic.{⊎-map, _≢_}
 use mathlib.Core.Bool.{true, false}
 use mathlib.Core.List.{List}
@@ -15,11 +15,12 @@ use Rattle.window.specs.Window.{lent, offset, inWindow}
 use Rattle.descriptor.specs.Descriptor.{count, nextEnabled, start, nextWord, next}
 use Rattle.packet_status.specs.PacketStatus.{packetStatus, granted, withPacketStatus}
 use Rattle.chain.specs.Buffer.{bytesFault, bufferFault}
-use Rattle.frame.proofs.Passed.{passed-short}
+use Rattle.frame.specs.Frame.{frameNumberBy}
+use Rattle.frame.proofs.Passed.{passed-short, by-frame}
 use Rattle.reason.specs.Status.{deliveredStatus}
 use Rattle.address_rule.specs.AddressRule.{addressRule}
 use Rattle.enet.specs.declared.Enet.{Enet}
-use Rattle.enet.specs.Device.{leaves, raised, withRx, rxNotGranted}
+use Rattle.enet.specs.Device.{leaves, raised, withRx, rxNotGranted, oneLost, oneDelivered}
 use Rattle.address.specs.Address.{polls}
 use Rattle.engine.specs.declared.Engine.{Engine}
 use Rattle.engine.specs.Engine.{withPlace}
@@ -52,10 +53,15 @@ statusOf b f = deliveredStatus (reasonOf b f) (length f)
 
 -- what the delivery after v others leaves
 unfoldable pub deviceAfter : Bench → ℕ → Enet → ℕ → Enet
-deviceAfter b first d v = withRx (raised d rxCurrDone) (withPlace (d .registers .rx) (inOrder b first (suc v)) true)
+deviceAfter b first d v =
+    oneDelivered (withRx (raised d rxCurrDone) (withPlace (d .registers .rx) (inOrder b first (suc v)) true))
 
 unfoldable pub memoryAfter : Bench → ℕ → List ℕ → ℕ → List ℕ → List ℕ
 memoryAfter b first m v f = storeWord (store m (bufAt b first v) f) (descAt b first v + 12) (statusOf b f)
+
+-- a frame that is turned away is not lost
+frame-not-lost : (reason : ℕ) (f : List ℕ) → eqb (frameNumberBy reason f) 8 ≡ false
+frame-not-lost reason f = by-frame (λ n. eqb n 8 ≡ false) reason f refl refl refl refl
 
 module _ {b : Bench} {n first : ℕ} {sound : RingSound b n first} {d : Enet} {m gs : List ℕ} {v : ℕ} (i : Inv b n first sound d m gs v) where
   abbrev base₀ : ℕ
@@ -146,18 +152,23 @@ module _ {b : Bench} {n first : ℕ} {sound : RingSound b n first} {d : Enet} {m
   receive-now f = λ j.
       ofReceived d (receiveAt (d .base) (d .window) (d .registers) (i .fixed .receiving j) (i .place j) (addressRule (i .fixed .filter j) f) m f)
 
-  pub turned-away : (f : List ℕ) → brings b f ≢ 0 → receive d m f ≡ leaves (brings b f) d m
+  away : (f : List ℕ) → brings b f ≢ 0
+      → receiveAt (d .base) (d .window) (d .registers) true (turn v) (reasonOf b f) m f ≡ receiving.leaves (brings b f) (d .registers) m
   unfolding receiveAt receiveNumber
-  turned-away f ne =
-      receive-now f
-      ∙ rw (lent-now, ne-eqb (brings b f) 0 ne, ne-eqb (brings b f) 0 ne, frame-keeps (reasonOf b f) (d .registers) f)
+  away f ne = rw (lent-now, ne-eqb (brings b f) 0 ne, ne-eqb (brings b f) 0 ne, frame-keeps (reasonOf b f) (d .registers) f)
+
+  uncounted : (f : List ℕ) → brings b f ≢ 0 → ofReceived d (receiving.leaves (brings b f) (d .registers) m) ≡ leaves (brings b f) d m
+  uncounted f ne = rw (ne-eqb (brings b f) 0 ne, frame-not-lost (reasonOf b f) f)
+
+  pub turned-away : (f : List ℕ) → brings b f ≢ 0 → receive d m f ≡ leaves (brings b f) d m
+  turned-away f ne = receive-now f ∙ ap (ofReceived d) (away f ne) ∙ uncounted f ne
 
   -- with polling enabled the engine looks again
-  looks-again : leaves 8 (rxNotGranted (raised d packetLost)) m ≡ leaves 8 (raised d packetLost) m
+  looks-again : leaves 8 (oneLost (rxNotGranted (raised d packetLost))) m ≡ leaves 8 (oneLost (raised d packetLost)) m
   looks-again =
-      ap (λ (e : Engine). leaves 8 (withRx (raised d packetLost) e) m) (sym (polling-looks-again (d .registers .rx) (i .fixed .polling)))
+      ap (λ (e : Engine). leaves 8 (oneLost (withRx (raised d packetLost) e)) m) (sym (polling-looks-again (d .registers .rx) (i .fixed .polling)))
 
-  pub lost-now : (f : List ℕ) → brings b f ≡ 0 → v ≡ length gs → receive d m f ≡ leaves 8 (raised d packetLost) m
+  pub lost-now : (f : List ℕ) → brings b f ≡ 0 → v ≡ length gs → receive d m f ≡ leaves 8 (oneLost (raised d packetLost)) m
   unfolding receiveAt receiveNumber chainNumber rxRefused
   lost-now f pass used =
       let s = some-now in
@@ -182,5 +193,5 @@ module _ {b : Bench} {n first : ℕ} {sound : RingSound b n first} {d : Enet} {m
         polled-now v (omega arith) (omega arith),
       )
       (λ j.
-      leaves 0 (withRx (raised d rxCurrDone) (withPlace (d .registers .rx) (turn (suc v)) true))
+      leaves 0 (oneDelivered (withRx (raised d rxCurrDone) (withPlace (d .registers .rx) (turn (suc v)) true)))
       (storeWord (store m (offset (i .fixed .base j) (start base₀ m₀ (turn v))) f) (offset (i .fixed .base j) (turn v) + 12) (statusOf b f)))

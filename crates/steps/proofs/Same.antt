@@ -10,12 +10,15 @@ use Rattle.memory.specs.Memory.{store}
 use Rattle.enet.specs.declared.Enet.{Enet}
 use Rattle.registers.specs.Access.{registerAt}
 use Rattle.registers.specs.Registers.{withStatus, withEnable}
-use Rattle.enet.specs.Device.{withRegisters}
+use Rattle.counters.specs.declared.Counters.{Counters}
+use Rattle.enet.specs.Device.{withRegisters, withCounters}
+use Rattle.enet.specs.Tick.{tick}
+use Rattle.enet.proofs.Ways.{by-tick}
 use Rattle.register_write.specs.Write.{written}
 use Rattle.enet.specs.Access.{write}
 use Rattle.calls.specs.Calls.{Bench, Call, call}
 use Rattle.changes.specs.Regions.{Region, regions, Outside, SameOutside}
-use Rattle.changes.proofs.Branches.{by-write}
+use Rattle.changes.proofs.Branches.{wrote, by-write}
 use Rattle.changes.proofs.Memories.{stored}
 use Rattle.changes.proofs.Nowhere.{changes-nowhere-else}
 use Rattle.steps.specs.Steps.{firmwareWrite, done, Writes}
@@ -24,9 +27,10 @@ use Rattle.steps.proofs.Places.{RingSound, descAt}
 use Rattle.steps.proofs.Held.{SameRing}
 use Rattle.steps.proofs.Invariant.{SameDevice}
 
--- a device that differs in the interrupt registers alone
-pub same-but-interrupts : (d : Enet) (isr ier : ℕ) → SameDevice d (withRegisters d (withEnable (withStatus (d .registers) isr) ier))
-same-but-interrupts d isr ier = record {
+-- a device that differs in the interrupt registers and the counters alone
+pub same-but-interrupts : (d : Enet) (isr ier : ℕ) (c : Counters)
+    → SameDevice d (withCounters (withRegisters d (withEnable (withStatus (d .registers) isr) ier)) c)
+same-but-interrupts d isr ier c = record {
   base = refl;
   window = refl;
   filter = refl;
@@ -37,19 +41,25 @@ same-but-interrupts d isr ier = record {
 }
 
 pub same-device : (d : Enet) → SameDevice d d
-same-device d = same-but-interrupts d (d .registers .isr) (d .registers .ier)
+same-device d = same-but-interrupts d (d .registers .isr) (d .registers .ier) (d .counters)
 
 -- a write to an interrupt register
-written-same : (d : Enet) (o v : ℕ) → InterruptOnes (o ∷ []) → SameDevice d (withRegisters d (written (d .registers) (registerAt o) v))
+written-same : (d : Enet) (o v : ℕ) → InterruptOnes (o ∷ []) → SameDevice d (wrote d o (written (d .registers) (registerAt o) v))
 unfolding registerAt
-written-same d o v (inl e, _) = rw e (same-but-interrupts d (d .registers .isr) _)
-written-same d o v (inr e, _) = rw e (same-but-interrupts d _ (d .registers .ier))
+written-same d o v (inl e, _) = rw e (same-but-interrupts d (d .registers .isr) _ _)
+written-same d o v (inr e, _) = rw e (same-but-interrupts d _ (d .registers .ier) _)
 
 -- a register write that is permitted, or refused
 pub write-same : (d : Enet) (o v : ℕ) → InterruptOnes (done (o ∷ []) (write d o v .number)) → SameDevice d (write d o v .device)
 write-same d o v =
     by-write (λ a. InterruptOnes (done (o ∷ []) (a .number)) → SameDevice d (a .device)) d v
     (λ _. same-device d) (λ _. same-device d) o (written-same d o v)
+
+-- a tick
+pub tick-same : (d : Enet) (m : List ℕ) → SameDevice d (tick d m .device)
+tick-same d m =
+    by-tick (λ a. SameDevice d (a .device)) d m
+    (same-device d) (same-but-interrupts d _ _ _) (same-but-interrupts d _ _ _) (same-but-interrupts d _ _ _)
 
 module _ (b : Bench) (n first : ℕ) (sound : RingSound b n first) where
   pub same-ring : (m : List ℕ) → SameRing b n first sound m m

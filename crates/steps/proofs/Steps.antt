@@ -11,7 +11,7 @@ use Rattle.granting.specs.Granting as plain
 use Rattle.granting.specs.Granting.{grantNumber}
 use Rattle.rules.proofs.Choices.{by-bool}
 use Rattle.calls.specs.Looks.{Look}
-use Rattle.calls.specs.Calls.{Bench, Call, looks, registerWrite, grantCall, sendCall, stepRun, call}
+use Rattle.calls.specs.Calls.{Bench, Call, looks, registerWrite, grantCall, sendCall, stepRun, tickCall, call}
 use Rattle.changes.specs.Regions.{regions, Outside}
 use Rattle.changes.proofs.Stopped.{send-stopped, run-stopped}
 use Rattle.steps.specs.Steps.{publicCall, firmwareWrite, Progress, afterStep}
@@ -20,7 +20,7 @@ use Rattle.steps.proofs.Places.{RingSound, descAt}
 use Rattle.steps.proofs.Held.{SameRing}
 use Rattle.steps.proofs.Invariant.{Inv, InvP, SameDevice, keeps}
 use Rattle.steps.proofs.Now.{lent-now}
-use Rattle.steps.proofs.Same.{same-device, write-same, same-ring, elsewhere, written-ring}
+use Rattle.steps.proofs.Same.{same-device, write-same, tick-same, same-ring, elsewhere, written-ring}
 use Rattle.steps.proofs.Grants.{grant-made}
 
 module _ {b : Bench} {n first : ℕ} {sound : RingSound b n first} (p : Progress) (i : InvP b n first sound p) where
@@ -69,6 +69,9 @@ module _ {b : Bench} {n first : ℕ} {sound : RingSound b n first} (p : Progress
   pub run-keeps : (output : List ℕ) (allowance : ℕ) → InvP b n first sound (afterStep p (publicCall (stepRun output allowance)))
   run-keeps output allowance =
       left (call (p .bench) (stepRun output allowance) .bench) (run-stopped (p .bench) (i .fixed .sending) output allowance)
+
+  pub tick-keeps : InvP b n first sound (afterStep p (publicCall tickCall))
+  tick-keeps = called tickCall (tick-same (p .bench .device) (p .bench .memory)) (λ k l i u. tt)
 
   pub firmware-keeps : (at : ℕ) (bytes : List ℕ) → Permitted b n first p (firmwareWrite at bytes)
       → InvP b n first sound (afterStep p (firmwareWrite at bytes))

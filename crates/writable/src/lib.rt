@@ -15,6 +15,7 @@ fn bits(register: Register) -> u32
         Register::RxNext => Registers::RXNDAR_WRITABLE,
         Register::TxStart => Registers::TXSTR_WRITABLE,
         Register::TxNext => Registers::TXNDAR_WRITABLE,
+        Register::TxTimeout => Registers::TXTOR_WRITABLE,
         Register::Mcr => Registers::MCR_WRITABLE,
         Register::Mah => Registers::MAH_WRITABLE,
         Register::Mal => Registers::MAL_WRITABLE,

@@ -8,4 +8,5 @@ reset-spec =
     tie.close
     (tie.spec
     (λ c κs. search needs)
+    (λ c κs. search needs)
     (λ c. search reset-is))

@@ -19,4 +19,5 @@ at-spec =
     (λ c. rw (c .match .keys9))
     (λ c. rw (c .match .keys10))
     (λ c. rw (c .match .keys11))
+    (λ c. rw (c .match .keys12))
     (λ c. search at-no-other))
