@@ -13,9 +13,9 @@ use Rattle.commands.specs.declared.Console.{Console}
 use Rattle.commands.specs.declared.Told.{Told}
 use Rattle.commands.specs.Answers.{Given, withDevice, withBench, given, tells}
 use Rattle.replies.specs.Replies.{said, numbered}
-use Rattle.commands.specs.Commands.{zeros, output, answerList, starts, lengths, new, lend, write, grant, frame, burst, send, run, poke}
+use Rattle.commands.specs.Commands.{zeros, output, answerList, starts, lengths, new, lend, write, grant, frame, burst, send, run, tick, poke}
 use Rattle.kinds.specs.declared.Act.{Act}
-use Rattle.kinds.specs.declared.Act.the-variants.{New, Lend, Write, Grant, Frame, Burst, Send, Run, Poke}
+use Rattle.kinds.specs.declared.Act.the-variants.{New, Lend, Write, Grant, Frame, Burst, Send, Run, Tick, Poke}
 use Rattle.acting.specs.Acts.{acts}
 
 module _ (c : Console) (m line t : List ℕ) (a b at : ℕ) (k : Act) where
@@ -36,6 +36,9 @@ module _ (c : Console) (m line t : List ℕ) (a b at : ℕ) (k : Act) where
 
     pub run-called : k ≡ Run → x ≡ tells (run c m a (output b)) t at → x ≡ tells (acts k c m a b line) t at
     run-called e h = rw e h
+
+    pub tick-called : k ≡ Tick → x ≡ tells (tick c m) t at → x ≡ tells (acts k c m a b line) t at
+    tick-called e h = rw e h
 
     pub poke-called : (v w : List ℕ) → k ≡ Poke → v ≡ rest line → w ≡ rest v → x ≡ tells (poke c m a (named w)) t at
         → x ≡ tells (acts k c m a b line) t at

@@ -56,6 +56,7 @@ pub fn acted(
         Act::Burst => bursting::burst(console, a, b, line, memory, text, at),
         Act::Send => outgoing::send(console, a, memory, text, at),
         Act::Run => outgoing::run(console, a, b, memory, text, at),
+        Act::Tick => lending::tick(console, memory, text, at),
         Act::Poke => {
             let word = words::rest(words::rest(line));
             poking::poke(console, a, word, memory, text, at)

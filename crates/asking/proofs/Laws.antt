@@ -8,9 +8,9 @@ use Rattle.text.specs.Text.{Text, written, put}
 use Rattle.replies.specs.Replies.{numbered}
 use Rattle.commands.specs.declared.Console.{Console}
 use Rattle.commands.specs.Answers.{answers, given, tells}
-use Rattle.commands.specs.Commands.{readSays, lineSays, showSays, ringSays, peekSays, checkSays, stateSays, errorSays}
+use Rattle.commands.specs.Commands.{readSays, lineSays, showSays, ringSays, peekSays, checkSays, stateSays, countersSay, errorSays}
 use Rattle.kinds.specs.declared.Query.{Query}
-use Rattle.kinds.specs.declared.Query.the-variants.{Read, Line, Show, Ring, Peek, Check, State, Error}
+use Rattle.kinds.specs.declared.Query.the-variants.{Read, Line, Show, Ring, Peek, Check, State, Counters, Error}
 use Rattle.asking.specs.Says.{says}
 
 module _ (c : Console) (m t : List ℕ) (a b at : ℕ) (k : Query) (x : Text) where
@@ -34,6 +34,9 @@ module _ (c : Console) (m t : List ℕ) (a b at : ℕ) (k : Query) (x : Text) wh
 
   pub state-said : k ≡ State → x ≡ put t at (stateSays (c .device)) → x ≡ put t at (says k c m a b)
   state-said e h = rw e h
+
+  pub counters-said : k ≡ Counters → x ≡ put t at (countersSay (c .device)) → x ≡ put t at (says k c m a b)
+  counters-said e h = rw e h
 
   pub error-said : k ≡ Error → x ≡ put t at (numbered (characters "error") (c .lines)) → x ≡ put t at (says k c m a b)
   unfolding errorSays

@@ -40,6 +40,7 @@ fn said(
         Query::Peek => peeking::peek(console.device, a, b, memory, text, at),
         Query::Check => peeking::check(console.device, memory, text, at),
         Query::State => queries::state(console.device, text, at),
+        Query::Counters => queries::counters(console.device, text, at),
         Query::Error => replies::numbered(text, at, b"error", console.lines),
     }
 }

@@ -1,7 +1,7 @@
 -- The commands of docs/CONSOLE.md, in its order, each under its row of the table: what it writes, and what it does.
 -- Assumes nothing.
 use Prim.Native.Nat.{ℕ, min}
-use mathlib.Core.List.{List, _++_}
+use mathlib.Core.List.{List, [], _∷_, _++_}
 use lib.ListN.{length, take, drop, replicate}
 use Rattle.rules.specs.Choice.{if_then_else_}
 use Rattle.memory.specs.Memory.{store}
@@ -15,6 +15,7 @@ use Rattle.enet.specs.Access.{read as readRegister, write as writeRegister, int
 use Rattle.enet.specs.Frames.{grant as grantAt, receive}
 use Rattle.enet.specs.Send.{send as sendInto}
 use Rattle.enet.specs.Run.{run as runInto}
+use Rattle.enet.specs.Tick.{tick as tickOf}
 use Rattle.burst.specs.Burst.{burstOf}
 use Rattle.words.specs.Words.{characters, rest}
 use Rattle.pair_words.specs.PairWords.{everyOther}
@@ -106,6 +107,12 @@ run c m allowance out =
     answers (withDevice c (r .device)) (behindLent c m (r .memory))
     (ran (characters "run") (r .number) (r .steps) (r .count) (take (r .count) (r .output)))
 
+-- `tick`: `tick N`. "a tick of the send time-out"
+unfoldable pub tick : Console → List ℕ → Answer
+tick c m =
+    let a = tickOf (c .device) (lent c m) in
+    answers (withDevice c (a .device)) m (numbered (characters "tick") (a .number))
+
 -- `show ADDRESS`: `show N BYTES`. "the delivered frame of the descriptor at ADDRESS, without its check sequence"
 unfoldable pub showSays : Enet → List ℕ → ℕ → List ℕ
 showSays d l address =
@@ -139,6 +146,11 @@ checkSays d m = valued (characters "check") (checkNumber (take (d .window) m))
 unfoldable pub stateSays : Enet → List ℕ
 stateSays d =
     let r = d .registers in engines (characters "state") (r .rx .running) (r .rx .place) (r .tx .running) (r .tx .place)
+
+-- `counters`: `counters DELIVERED LOST SENT COUNT`. "the frames delivered, lost and sent since `new`, and the count of ticks"
+unfoldable pub countersSay : Enet → List ℕ
+countersSay d =
+    let c = d .counters in listed (characters "counters") (c .delivered) (c .lost ∷ c .sent ∷ c .ticks ∷ [])
 
 -- "A line that is no call writes `error L`, L its line number, and changes nothing"
 unfoldable pub errorSays : Console → List ℕ

@@ -8,7 +8,7 @@ use Rattle.enet.specs.declared.Enet.{Enet}
 use Rattle.enet.specs.Device.{reset as resetBench}
 use Rattle.script.specs.declared.Call.{Call}
 use Rattle.script.specs.declared.Command.{Command}
-use Rattle.script.specs.declared.Command.the-variants.{New, Lend, Read, Write, Line, Grant, Frame, Burst, Send, Run, Show, Ring, Poke, Peek, Check, State, Error}
+use Rattle.script.specs.declared.Command.the-variants.{New, Lend, Read, Write, Line, Grant, Frame, Burst, Send, Run, Tick, Show, Ring, Poke, Peek, Check, State, Counters, Error}
 use Rattle.script.specs.Calls.{callOf}
 use Rattle.script.specs.Silent.{silent}
 use Rattle.text.proofs.Laws.{put-nothing}
@@ -42,12 +42,14 @@ module _ (c : Console) (m line : List ℕ) (a b : ℕ) where
   by-kind Burst = refl
   by-kind Send = refl
   by-kind Run = refl
+  by-kind Tick = refl
   by-kind Show = refl
   by-kind Ring = refl
   by-kind Poke = refl
   by-kind Peek = refl
   by-kind Check = refl
   by-kind State = refl
+  by-kind Counters = refl
   by-kind Error = refl
 
   module _ (t : List ℕ) (at : ℕ) (k : Command) (kind : Kind) (e : kind ≡ kindOf k) (x : Given) where

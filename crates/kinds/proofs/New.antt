@@ -13,7 +13,7 @@ use Rattle.forms.specs.Pairs.{byteCount}
 use Rattle.pair_words.specs.PairWords.{pairsBehind}
 use Rattle.words.specs.Words.{characters, is, spaced, first, rest}
 use Rattle.script.specs.declared.Command.{Command}
-use Rattle.script.specs.declared.Command.the-variants.{Lend, Read, Write, Line, Grant, Frame, Burst, Send, Run, Show, Ring, Poke, Peek, Check, State}
+use Rattle.script.specs.declared.Command.the-variants.{Lend, Read, Write, Line, Grant, Frame, Burst, Send, Run, Tick, Show, Ring, Poke, Peek, Check, State, Counters}
 use Rattle.script.specs.declared.Call.{Call}
 use Rattle.script.specs.Calls.{noCall, given, none, any, alone, withOne, withTwo, withMore, callOf}
 use Rattle.kinds.specs.Kinds.{renews}
@@ -38,8 +38,10 @@ not-alone : (w : List ℕ) → Not (alone w)
 unfolding alone
 not-alone w =
     either-name (is w (characters "line")) (given Line none none) _ (not-given Line none none refl)
+    (either-name (is w (characters "tick")) (given Tick none none) _ (not-given Tick none none refl)
     (either-name (is w (characters "check")) (given Check none none) _ (not-given Check none none refl)
-    (either-name (is w (characters "state")) (given State none none) noCall (not-given State none none refl) refl))
+    (either-name (is w (characters "state")) (given State none none) _ (not-given State none none refl)
+    (either-name (is w (characters "counters")) (given Counters none none) noCall (not-given Counters none none refl) refl))))
 
 not-with-one : (w a : List ℕ) → Not (withOne w a)
 unfolding withOne

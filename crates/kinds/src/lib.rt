@@ -12,6 +12,7 @@ pub enum Query {
     Peek,
     Check,
     State,
+    Counters,
     Error,
 }
 
@@ -25,6 +26,7 @@ pub enum Act {
     Burst,
     Send,
     Run,
+    Tick,
     Poke,
 }
 
@@ -48,12 +50,14 @@ pub fn kind_of(command: Command) -> Kind
         Command::Burst => Kind::Acts(Act::Burst),
         Command::Send => Kind::Acts(Act::Send),
         Command::Run => Kind::Acts(Act::Run),
+        Command::Tick => Kind::Acts(Act::Tick),
         Command::Show => Kind::Asks(Query::Show),
         Command::Ring => Kind::Asks(Query::Ring),
         Command::Poke => Kind::Acts(Act::Poke),
         Command::Peek => Kind::Asks(Query::Peek),
         Command::Check => Kind::Asks(Query::Check),
         Command::State => Kind::Asks(Query::State),
+        Command::Counters => Kind::Asks(Query::Counters),
         Command::Error => Kind::Asks(Query::Error),
     }
 }
@@ -73,12 +77,14 @@ pub fn renews(command: Command) -> bool
         Command::Burst => false,
         Command::Send => false,
         Command::Run => false,
+        Command::Tick => false,
         Command::Show => false,
         Command::Ring => false,
         Command::Poke => false,
         Command::Peek => false,
         Command::Check => false,
         Command::State => false,
+        Command::Counters => false,
         Command::Error => false,
     }
 }

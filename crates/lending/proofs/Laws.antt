@@ -6,6 +6,7 @@ use lib.ListN.{length, take, drop}
 use Rattle.enet.specs.declared.Answered.{Answered}
 use Rattle.enet.specs.Device.{Outcome, outcome}
 use Rattle.enet.specs.Frames.{grant as grantAt, receive}
+use Rattle.enet.specs.Tick.{tick as tickOf}
 use Rattle.words.specs.Words.{characters}
 use Rattle.forms.specs.Pairs.{named, decoded, decode}
 use Rattle.forms.proofs.NamedLaws.{named-is}
@@ -14,7 +15,7 @@ use Rattle.commands.specs.declared.Console.{Console}
 use Rattle.commands.specs.declared.Told.{Told}
 use Rattle.commands.specs.Answers.{answers, withDevice, given, tells}
 use Rattle.replies.specs.Replies.{numbered}
-use Rattle.commands.specs.Commands.{behindLent, grant, frame}
+use Rattle.commands.specs.Commands.{behindLent, grant, frame, tick}
 
 -- ---- a call that answers a number
 
@@ -23,6 +24,13 @@ module _ (c : Console) (m t t′ : List ℕ) (at : ℕ) (r : Told) where
   whole : (name m′ : List ℕ) (a : Answered) → r .console ≡ withDevice c (a .device) → written (r .end) t′ ≡ put t at (numbered name (a .number))
       → given r m′ t′ ≡ tells (answers (withDevice c (a .device)) m′ (numbered name (a .number))) t at
   whole name m′ a e h = λ j. record { console = e j; memory = m′; text = h j }
+
+  pub tick-made : (l : List ℕ) (a : Answered) → l ≡ take (c .lent) m → a ≡ tickOf (c .device) l → r .console ≡ withDevice c (a .device)
+      → written (r .end) t′ ≡ put t at (numbered (characters "tick") (a .number)) → given r m t′ ≡ tells (tick c m) t at
+  unfolding tick
+  tick-made l a q p e h =
+      whole (characters "tick") m a e h
+      ∙ ap (λ (a : Answered). tells (answers (withDevice c (a .device)) m (numbered (characters "tick") (a .number))) t at) (p ∙ ap (tickOf (c .device)) q)
 
   module _ (n : ℕ) (seen : take n m ≡ take (c .lent) m) (kept : drop n m ≡ drop (c .lent) m) where
     part : (name l′ : List ℕ) (a : Answered) (o : Outcome) → outcome a l′ ≡ o → r .console ≡ withDevice c (a .device)

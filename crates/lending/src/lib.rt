@@ -4,7 +4,7 @@ ghost use lib.ListN.{length};
 ghost use Rattle.forms.specs.Pairs.{named};
 ghost use Rattle.text.specs.Text.{written, put};
 ghost use Rattle.commands.specs.Answers.{given, tells, withDevice};
-ghost use Rattle.commands.specs.Commands.{grant, frame};
+ghost use Rattle.commands.specs.Commands.{grant, frame, tick};
 ghost use Rattle.replies.specs.Replies.{numbered};
 use commands::Console;
 use commands::Told;
@@ -45,4 +45,12 @@ pub fn frame(console: Console, word: &[u8], memory: &mut [u8], text: &mut [u8], 
         .device
         .receive(&mut memory[..k], memory::part(&bytes, 0, n));
     answered(console, a, b"frame", text, at)
+}
+
+// A tick looks at what is lent, and writes none of it.
+pub fn tick(console: Console, memory: &[u8], text: &mut [u8], at: usize) -> Told
+    ensures { λ r. ⌜ given r (now (memory .entry)) (now (text .exit)) ≡ tells (tick console (now (memory .entry))) (now (text .entry)) at ⌝ }
+{
+    let a = console.device.tick(memory::part(memory, 0, console.lent));
+    answered(console, a, b"tick", text, at)
 }

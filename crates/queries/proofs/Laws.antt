@@ -2,7 +2,7 @@
 use Prim.Native.Nat.{ℕ}
 use mathlib.Core.Path.{_≡_}
 use mathlib.Core.Bool.{Bool}
-use mathlib.Core.List.{List}
+use mathlib.Core.List.{List, [], _∷_}
 use Rattle.window.specs.Window.{offset}
 use Rattle.reading.specs.Reading.{readingNumber, reading}
 use Rattle.ring.specs.Ring.{soundRing}
@@ -14,7 +14,8 @@ use Rattle.text.specs.Text.{Text, put}
 use Rattle.replies.specs.Replies.{either}
 use Rattle.reports.specs.Reports.{read, shown}
 use Rattle.long_reports.specs.LongReports.{engines}
-use Rattle.commands.specs.Commands.{readSays, lineSays, showSays, ringSays, stateSays}
+use Rattle.list_reports.specs.ListReports.{listed}
+use Rattle.commands.specs.Commands.{readSays, lineSays, showSays, ringSays, stateSays, countersSay}
 
 module _ (d : Enet) (t : List ℕ) (at : ℕ) (x : Text) where
   pub read-says : (offset : ℕ) (a : Value) → a ≡ readRegister d offset → x ≡ put t at (read (characters "read") (a .number) (a .value))
@@ -41,3 +42,8 @@ module _ (d : Enet) (t : List ℕ) (at : ℕ) (x : Text) where
       → x ≡ put t at (stateSays d)
   unfolding stateSays
   state-says h = h
+
+  pub counters-say : (l : List ℕ) → l ≡ d .counters .lost ∷ d .counters .sent ∷ d .counters .ticks ∷ []
+      → x ≡ put t at (listed (characters "counters") (d .counters .delivered) l) → x ≡ put t at (countersSay d)
+  unfolding countersSay
+  counters-say l e h = rw (← e) h

@@ -1,7 +1,7 @@
 // The calls that look at the device. Each writes its line.
 ghost use mathlib.Core.Path.{_≡_};
 ghost use Rattle.text.specs.Text.{written, put};
-ghost use Rattle.commands.specs.Commands.{readSays, lineSays, showSays, ringSays, stateSays};
+ghost use Rattle.commands.specs.Commands.{readSays, lineSays, showSays, ringSays, stateSays, countersSay};
 use enet::Enet;
 
 pub fn read(device: Enet, offset: u32, text: &mut [u8], at: usize) -> usize
@@ -52,5 +52,18 @@ pub fn state(device: Enet, text: &mut [u8], at: usize) -> usize
         rx.place,
         tx.running,
         tx.place,
+    )
+}
+
+pub fn counters(device: Enet, text: &mut [u8], at: usize) -> usize
+    ensures { λ r. ⌜ written r (now (text .exit)) ≡ put (now (text .entry)) at (countersSay device) ⌝ }
+{
+    let c = device.counters;
+    list_reports::listed(
+        text,
+        at,
+        b"counters",
+        c.delivered,
+        &[c.lost, c.sent, c.ticks],
     )
 }

@@ -45,12 +45,14 @@ stepOf command.Frame = Frame
 stepOf command.Burst = Other
 stepOf command.Send = Send
 stepOf command.Run = Other
+stepOf command.Tick = Other
 stepOf command.Show = Other
 stepOf command.Ring = Other
 stepOf command.Poke = Poke
 stepOf command.Peek = Other
 stepOf command.Check = Other
 stepOf command.State = Other
+stepOf command.Counters = Other
 stepOf command.Error = Other
 
 -- the first of them, with its numbers

@@ -28,12 +28,14 @@ pub(crate) fn step_of(command: Command) -> Step
         Command::Burst => Step::Other,
         Command::Send => Step::Send,
         Command::Run => Step::Other,
+        Command::Tick => Step::Other,
         Command::Show => Step::Other,
         Command::Ring => Step::Other,
         Command::Poke => Step::Poke,
         Command::Peek => Step::Other,
         Command::Check => Step::Other,
         Command::State => Step::Other,
+        Command::Counters => Step::Other,
         Command::Error => Step::Other,
     }
 }

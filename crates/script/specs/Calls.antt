@@ -19,12 +19,14 @@ use Rattle.script.specs.declared.Command.the-variants.{
   Burst,
   Send,
   Run,
+  Tick,
   Show,
   Ring,
   Poke,
   Peek,
   Check,
   State,
+  Counters,
   Error,
 }
 use Rattle.script.specs.declared.Call.{Call}
@@ -55,8 +57,10 @@ any = 99_999_999
 unfoldable pub alone : List ℕ → Call
 alone name =
     if is name (characters "line") then given Line none none else
+    if is name (characters "tick") then given Tick none none else
     if is name (characters "check") then given Check none none else
     if is name (characters "state") then given State none none else
+    if is name (characters "counters") then given Counters none none else
     noCall
 
 -- of two

@@ -25,12 +25,14 @@ pub enum Command {
     Burst,
     Send,
     Run,
+    Tick,
     Show,
     Ring,
     Poke,
     Peek,
     Check,
     State,
+    Counters,
     Error,
 }
 
@@ -89,11 +91,17 @@ fn alone(name: &[u8]) -> Call
     if is(name, b"line") {
         return given(Command::Line, none, none);
     }
+    if is(name, b"tick") {
+        return given(Command::Tick, none, none);
+    }
     if is(name, b"check") {
         return given(Command::Check, none, none);
     }
     if is(name, b"state") {
         return given(Command::State, none, none);
+    }
+    if is(name, b"counters") {
+        return given(Command::Counters, none, none);
     }
     no_call()
 }

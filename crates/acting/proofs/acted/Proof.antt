@@ -1,6 +1,5 @@
--- `acting::acted` meets its contract. Assumes nothing.
 use borrow.Author.Needs.{needs}
-use Rattle.acting.proofs.Laws.{new-called, lend-called, write-called, grant-called, frame-called, burst-called, send-called, run-called, poke-called}
+use Rattle.acting.proofs.Laws.{new-called, lend-called, write-called, grant-called, frame-called, burst-called, send-called, run-called, tick-called, poke-called}
 use Rattle.acting.proofs.acted.Statement.{statement}
 use Rattle.acting.proofs.acted.Tie as tie
 
@@ -21,6 +20,8 @@ acted-spec =
     (λ c κs. search needs)
     (λ c. search needs)
     (λ c κs. search needs)
+    (λ c κs. search needs)
+    (λ c. search needs)
     (λ c κs. search needs)
     (λ c. search needs)
     (λ c κs. search needs)
@@ -54,6 +55,9 @@ acted-spec =
     (λ c. search needs)
     (λ c. search needs)
     (λ c. search run-called)
+    (λ c. search needs)
+    (λ c. search needs)
+    (λ c. search tick-called)
     (λ c. search needs)
     (λ c. search needs)
     (λ c. search poke-called))

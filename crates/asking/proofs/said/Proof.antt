@@ -1,6 +1,5 @@
--- `asking::said` meets its contract. Assumes nothing.
 use borrow.Author.Needs.{needs}
-use Rattle.asking.proofs.Laws.{read-said, line-said, show-said, ring-said, peek-said, check-said, state-said, error-said}
+use Rattle.asking.proofs.Laws.{read-said, line-said, show-said, ring-said, peek-said, check-said, state-said, counters-said, error-said}
 use Rattle.asking.proofs.said.Statement.{statement}
 use Rattle.asking.proofs.said.Tie as tie
 
@@ -25,6 +24,8 @@ said-spec =
     (λ c. search needs)
     (λ c κs. search needs)
     (λ c. search needs)
+    (λ c κs. search needs)
+    (λ c. search needs)
     (λ c. search needs)
     (λ c κs. search needs)
     (λ c. search needs)
@@ -41,5 +42,7 @@ said-spec =
     (λ c. search check-said)
     (λ c. search needs)
     (λ c. search state-said)
+    (λ c. search needs)
+    (λ c. search counters-said)
     (λ c. search needs)
     (λ c. search error-said))
