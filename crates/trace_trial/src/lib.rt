@@ -49,7 +49,7 @@ pub extern "C" fn trace_trial_write(
 }
 
 // What a replay answered.
-fn numbers_of(r: Replayed) -> [u64; 23]
+fn numbers_of(r: Replayed) -> [u64; 28]
     ensures { λ l. ⌜ l ≡ replayedNumbers r ⌝ }
 {
     let device = r.device;
@@ -57,6 +57,7 @@ fn numbers_of(r: Replayed) -> [u64; 23]
     let filter = registers.filter;
     let rx = registers.rx;
     let tx = registers.tx;
+    let counters = device.counters;
     [
         r.number as u64,
         r.block as u64,
@@ -81,6 +82,11 @@ fn numbers_of(r: Replayed) -> [u64; 23]
         flag(tx.running),
         tx.place as u64,
         flag(tx.polling),
+        registers.txtor as u64,
+        counters.delivered as u64,
+        counters.lost as u64,
+        counters.sent as u64,
+        counters.ticks as u64,
     ]
 }
 

@@ -26,10 +26,9 @@ numbers-of-spec =
     (λ c κs. search needs)
     (λ c. search needs)
     (λ c κs. search needs)
-    (λ c.
-    rw (
-      c .before .before .before .before .before .before .before .flag .ensures,
-      c .before .before .before .before .before .flag2 .ensures,
-      c .before .before .flag3 .ensures,
-      c .flag4 .ensures,
-    )))
+    (λ c. search needs)
+    (λ c. search needs)
+    (λ c. search needs)
+    (λ c. search needs)
+    (λ c. search needs)
+    (λ c. rw (c .before .before .before .before .before .before .before .before .before .before .before .before .flag .ensures, c .before .before .before .before .before .before .before .before .before .before .flag2 .ensures, c .before .before .before .before .before .before .before .flag3 .ensures, c .before .before .before .before .before .flag4 .ensures)))
