@@ -199,9 +199,23 @@ class Engines:
         if engine.place is None:
             self.memory.lose_all()
         else:
-            self.memory.lose(engine.place + wording.STATUS_WORD, 4)
+            self.memory.hand(engine.place, False)
         engine.move(control, following, at)
         return ''
+
+    def unsent(self):
+        """Whether sending runs and has a granted descriptor in the window, None where that is not known, and why not."""
+        place = self.sending.place
+        named = 'its descriptor' if place is None else self.named(place)
+        rules = [
+            (self.sending.runs, self.sending.standing(), 'whether sending runs'),
+            (None if place is None else self.memory.has(place), f'{named} is not all in the window', f'whether {named} is in the window'),
+            (None if place is None else self.memory.grants(place), f'{named} is not granted', f'whether {named} is granted'),
+        ]
+        for holds, words, _ in rules:
+            if holds is False:
+                return False, words
+        return next(((None, f'{words} is not known') for holds, _, words in rules if holds is None), (True, ''))
 
     # ---- calls
 
@@ -228,7 +242,7 @@ class Engines:
 
     def follow_grant(self, at, address, number):
         if number == 0:
-            self.memory.lose(address + wording.STATUS_WORD, 4)
+            self.memory.hand(address, True)
         return []
 
     def follow_frame(self, at, data, number):

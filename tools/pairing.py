@@ -9,6 +9,8 @@ NUMBER = r'([0-9]{1,10})'
 WORD = r'([0-9a-f]{8})'
 BYTES = r'(-|(?:[0-9a-f]{2})+)'
 FLAG = r'([01])'
+# what a counter holds
+COUNTER = r'(0|[1-9][0-9]{0,9})'
 # lists, to the end of the line: of starts with their lengths, and of numbers
 PLACES = r'((?: [0-9]{1,8} [0-9]{1,8})*)'
 NUMBERS = r'((?: [0-9]{1,10})*)'
@@ -27,12 +29,14 @@ FORMS = {
     'burst': ([DECIMAL, PAIRS, PLACES], [NUMBER, NUMBERS]),
     'send': ([DECIMAL], [NUMBER, BYTES]),
     'run': ([DECIMAL, DECIMAL], [NUMBER, NUMBER, NUMBER, BYTES]),
+    'tick': ([], [NUMBER]),
     'show': ([HEX], [NUMBER, BYTES]),
     'ring': ([DECIMAL, HEX], [r'(yes|no)']),
     'poke': ([HEX, PAIRS], [r'(ok|outside)']),
     'peek': ([HEX, DECIMAL], [r'(outside|-|(?:[0-9a-f]{2})+)']),
     'check': ([], [WORD]),
     'state': ([], [FLAG, WORD, FLAG, WORD]),
+    'counters': ([], [COUNTER] * 4),
     'vread': ([FLAG, HEX], [NUMBER, WORD]),
     'vwrite': ([FLAG, HEX, HEX], [NUMBER]),
     'inputs': ([FLAG, HEX], []),
@@ -40,7 +44,7 @@ FORMS = {
     'fiq': ([], [FLAG]),
 }
 
-BASES = {HEX: 16, DECIMAL: 10, NUMBER: 10, WORD: 16, FLAG: 10}
+BASES = {HEX: 16, DECIMAL: 10, NUMBER: 10, WORD: 16, FLAG: 10, COUNTER: 10}
 LONGEST_QUOTE = 40
 
 

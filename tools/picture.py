@@ -1,4 +1,4 @@
-"""The picture of a bench day: what became of grants, frames and interrupts, and the ring's fill, over the calls.
+"""The picture of a bench day: what became of grants, frames, sends that timed out and interrupts, and the ring's fill, over the calls.
 
 A call has one column; a burst has one for each of its pairs, with a box around them.
 """
@@ -16,6 +16,7 @@ ROWS = {
     'lost': '#d03a00',
     'refused': '#5f5f5f',
     'sent': '#8a4fa3',
+    'TX_TO': '#b3125f',
     'taken': '#7a4a1e',
     'ended': '#7a4a1e',
 }
@@ -26,6 +27,7 @@ LEGEND = {
     # a frame, or a burst or one of its pairs
     'refused': 'refused, by its number',
     'sent': 'frame sent',
+    'TX_TO': 'TX_TO set by a tick',
     'taken': 'interrupt taken',
     'ended': 'interrupt ended',
 }
@@ -74,6 +76,10 @@ class Drawing:
             self.put('path', group, d=f'M{x - 4.5:g} {y - 4.5:g}l9 9m0 -9l-9 9', stroke=colour, stroke_width=2.5)
         elif kind == 'sent':
             self.put('path', group, d=f'M{x:g} {y - 5.5:g}l5 5.5l-5 5.5l-5 -5.5z', fill=colour)
+        elif kind == 'TX_TO':
+            # a clock
+            self.put('circle', group, cx=x, cy=y, r=5, fill='#ffffff', stroke=colour, stroke_width=2)
+            self.put('path', group, d=f'M{x:g} {y - 3.5:g}v3.5h3', stroke=colour, stroke_width=1.5, fill='none')
         elif kind == 'taken':
             self.put('path', group, d=f'M{x:g} {y + 6:g}l5 -10h-10z', fill=colour)
         elif kind == 'ended':
@@ -154,6 +160,8 @@ class Picture:
         if sums.bursts or sums.bursts_refused:
             words += (f'; {count(sums.bursts, "burst")} made, {sums.bursts_refused} refused, '
                       f'{count(sums.outside, "pair")} outside')
+        if self.day.ticks.counts.timed_out:
+            words += f'; {count(self.day.ticks.counts.timed_out, "send time-out")}'
         interrupts = self.day.interrupts.counts
         if interrupts.taken:
             words += f'; {count(sum(interrupts.taken.values()), "interrupt")} taken, {interrupts.ended} ended'

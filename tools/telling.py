@@ -2,11 +2,13 @@
 import dataclasses
 import zlib
 
+import counting
 import enet_line
 import engines
 import filtering
 import interrupts
 import pairing
+import ticks
 import vic_words
 import wording
 from pairing import Fault
@@ -31,7 +33,7 @@ class Told:
     more: list = dataclasses.field(default_factory=list)
     # of a burst: its pairs in their order, each as a `Told` of its own
     parts: list = dataclasses.field(default_factory=list)
-    # grants, delivered, lost, refused or sent; the answer's number; how many frames or grants
+    # grants, delivered, lost, refused, sent, or a tick that set TX_TO; the answer's number; how many frames or grants
     kind: str = ''
     number: int = 0
     times: int = 1
@@ -129,6 +131,8 @@ class Day:
         self.filter = filtering.Filter()
         self.line = enet_line.EnetLine()
         self.engines = engines.Engines(self.the_descriptor, self.filter, self.line)
+        self.ticks = ticks.Ticks(self.engines, self.line)
+        self.counting = counting.Counting(self.ticks)
         self.interrupts = interrupts.Interrupts(self.line)
         self.forget()
         self.entries = [self.told(entry) for entry in pairing.entries(script, output)]
@@ -146,12 +150,13 @@ class Day:
             self.lose_track()
         if not isinstance(entry, pairing.Call):
             return entry
-        wrong, followed, reasons, interrupted = odd(entry), [], [], []
+        wrong, followed, reasons, others = odd(entry), [], [], []
         try:
             if not wrong:
                 reasons, followed = self.filter.follow(entry), self.engines.follow(entry)
+                others = self.counting.follow(entry) + self.ticks.follow(entry)
                 self.line.follow(entry)
-                interrupted = self.interrupts.follow(entry)
+                others += self.interrupts.follow(entry)
         except engines.Contradiction as contradiction:
             wrong = str(contradiction)
         if wrong:
@@ -163,8 +168,8 @@ class Day:
             part.more += [words] if words else []
         for part, reason in zip(told.parts or [told], reasons):
             self.tell_reason(part, reason)
-        told.more += interrupted
-        told.kind = told.kind or self.interrupts.event
+        told.more += others
+        told.kind = told.kind or self.ticks.event or self.interrupts.event
         told.fill = self.fill
         self.totals.calls += 1
         return told
@@ -174,6 +179,8 @@ class Day:
         self.engines.forget()
         self.filter.forget()
         self.line.forget()
+        self.ticks.forget()
+        self.counting.forget()
         self.interrupts.forget()
 
     # ---- places
@@ -299,6 +306,9 @@ class Day:
         self.totals.sent += frames
         self.totals.sent_bytes += len(data)
 
+    def tell_tick(self, told, number):
+        told.answered = wording.answer(number, f'{"TX_TO is set, " if self.ticks.event else ""}{self.ticks.standing()}')
+
     def tell_show(self, told, address, number, data):
         told.answered = wording.answer(number, f'{self.descriptor(address)} holds {message(data, 0)}')
         if number == 13:
@@ -334,6 +344,9 @@ class Day:
     def tell_state(self, told, receives, receive_place, sends, send_place):
         told.answered = (f'{self.engine(self.engines.receiving, receives, receive_place)}; '
                          f'{self.engine(self.engines.sending, sends, send_place)}')
+
+    def tell_counters(self, told, delivered, lost, sent, tick_count):
+        told.answered = f'{counting.named([delivered, lost, sent])}; the tick count is {tick_count}'
 
     # ---- interrupt controllers
 

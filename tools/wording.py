@@ -32,6 +32,8 @@ LEAVES = {
     12: 'sending stops',
 }
 
+# the send time-out: its register, and the bits that it has
+TIME_OUT, TIME_OUT_BITS = 0x48, 0xffff
 # the filter registers
 MAC_CONTROL, ADDRESS_HIGH, ADDRESS_LOW, HASH_HIGH, HASH_LOW = 0x400, 0x404, 0x408, 0x40c, 0x410
 # offset: short name, name
@@ -42,6 +44,7 @@ REGISTERS = {
     0x1c: ('RXNDAR', 'receive next descriptor'),
     0x30: ('TXSTR', 'send start'),
     0x3c: ('TXNDAR', 'send next descriptor'),
+    TIME_OUT: ('TXTOR', 'send time-out'),
     MAC_CONTROL: ('MCR', 'MAC control'),
     ADDRESS_HIGH: ('MAH', 'MAC address high'),
     ADDRESS_LOW: ('MAL', 'MAC address low'),
@@ -91,6 +94,11 @@ LONGEST_TEXT = 52
 def count(n, noun):
     """1 frame, 2 frames."""
     return f'{n} {noun}' if n == 1 else f'{n} {noun}s'
+
+
+def nth(n):
+    """1st, 2nd, 3rd, 4th."""
+    return f'{n}{"th" if n // 10 % 10 == 1 else {1: "st", 2: "nd", 3: "rd"}.get(n % 10, "th")}'
 
 
 def on(flag):
@@ -170,6 +178,11 @@ def bits(value):
     return f'bit{"" if len(found) == 1 else "s"} {", ".join(found)} set'
 
 
+def time_out(ticks):
+    """What the send time-out says: so many ticks in a row are let pass."""
+    return f'TX_TO at the {nth(ticks + 1)} tick in a row without a send' if ticks else 'no time-out, ticks are not counted'
+
+
 def holds(offset, value):
     """What a register's value says."""
     short, _ = REGISTERS.get(offset, ('', ''))
@@ -185,6 +198,8 @@ def holds(offset, value):
         return f'address {address(value):08x}, polling {on(polls(value))}'
     if short in ('MCHA', 'MCLA'):
         return bits(value)
+    if short == 'TXTOR':
+        return time_out(value & TIME_OUT_BITS)
     return 'not known to this report'
 
 
