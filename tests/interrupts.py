@@ -497,7 +497,7 @@ SILENT = [
     ('before the first new', [], 0),
     ('behind a fault', [*ENET_IN_SERVICE, ('grant 0', 'grant 17')], 1),
     ('behind a contradiction', [*ENET_IN_SERVICE, irq('0 11 0000a000')], 1),
-    ('behind an unknown call', [*ENET_IN_SERVICE, ('tick', 'tick 0')], 1),
+    ('behind an unknown call', [*ENET_IN_SERVICE, ('tock', 'tock 0')], 1),
 ]
 # no bench answers so; each is told, and none is a fault
 ANYTHING = [irq('1 3 00001234'), irq('none'), fiq(1), fiq(0), get(0, 0x00, 0x1234), get(1, 0x10, 0xffff), get(1, 0x30, 0x77),

@@ -247,7 +247,7 @@ DAYS = {
 BETWEEN = [
     ('line', 'line 0', True),
     ('lin', 'error 4', True),
-    ('tick', 'tick 0', False),
+    ('tock', 'tock 0', False),
     ('grant 0', 'grant 17', False),
     ('state', 'state 0 00000000 0 00000000', False),
 ]

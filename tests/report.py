@@ -322,7 +322,7 @@ FAULTS = [
     ('no output', 'line\n', '', 'line 1: the output ends before the answer to "line"'),
     ('output goes on', '# nothing\n', 'line 0\n', 'the output goes on after the last call; lines left: 1'),
     ('a line not taken', '\nlin\nline\n', 'error 2\nline 1\n', 'line 2: the console did not take "lin"'),
-    ('an unknown call', 'tick\n', 'tick 0\n', 'line 1: "tick" is no call known here, yet it was answered "tick 0"'),
+    ('an unknown call', 'tock\n', 'tock 0\n', 'line 1: "tock" is no call known here, yet it was answered "tock 0"'),
     ('a call of another form', 'grant\n', 'grant 0\n', '"grant" is no call known here'),
     ('another answer', 'grant 0\n', 'frame 0\n', 'line 1: "frame 0" does not answer "grant 0"'),
     ('an error elsewhere', 'grant 0\n', 'error 2\n', '"error 2" does not answer "grant 0"'),
