@@ -16,7 +16,7 @@ OWN = [ROOT / 'crates' / 'bench' / name for name in ('stdin', 'stdout')]
 # a script, the words between, and what it writes; both are set in by four blanks
 EXAMPLE = re.compile(r'((?:    .*\n|\n)+)It writes.*:\n((?:    .*\n|\n)+)')
 # how many there are, so that none is passed over for its form
-EXAMPLES = 5
+EXAMPLES = 6
 
 
 def main(program):

@@ -6,6 +6,7 @@ What the sample days have to come to is worked out by hand from documents 01 and
 Usage: report.py PROGRAM   (the bench console)
 """
 import dataclasses
+import importlib
 import os
 import pathlib
 import re
@@ -17,10 +18,11 @@ import zlib
 
 import interrupts
 import polling
+import ticks
 
 ROOT = pathlib.Path(__file__).resolve().parent.parent
 REPORT, DAY = ROOT / 'tools' / 'report', ROOT / 'examples' / 'day.txt'
-INTERRUPTS = ROOT / 'examples' / 'interrupts.txt'
+INTERRUPTS, TICKS = ROOT / 'examples' / 'interrupts.txt', ROOT / 'examples' / 'ticks.txt'
 STATION, BROADCAST = bytes.fromhex('020000000001'), b'\xff' * 6
 # the group whose bit the firmware sets on the sample day; no frame comes to it but in hash mode
 GROUP = bytes.fromhex('030000000001')
@@ -51,9 +53,9 @@ STATUSES = [
     '40000000: packet status of descriptor 4 of the ring, returned, length 64',
     '5f000000: packet status of descriptor 1 of the ring, returned, length 95',
 ]
-# the broadcast has 14 + 77 + 4 bytes, each result 64; the sends have 64, 64 and 66 + 4
+# the broadcast has 14 + 77 + 4 bytes, each result 64; the sends have 64, 64, 66 + 4 and, behind the time-out, the last again
 TOTALS = [
-    'calls 181',
+    'calls 197',
     'grants made 17',
     'grants refused 2',
     '13 1 descriptor not at a multiple of 4 or not all in the window',
@@ -72,7 +74,10 @@ TOTALS = [
     '5 1 frame check sequence wrong',
     '6 3 address not for this station',
     "11 1 lent memory not of the window's length",
-    'frames sent 3 198 bytes',
+    'frames sent 4 268 bytes',
+    'ticks made 5',
+    'ticks refused 0',
+    'TX_TO set 1',
     'interrupts taken 2',
     '1 VIC0.11 (ENET)',
     '1 VIC1.0 (UART0)',
@@ -82,7 +87,7 @@ TOTALS = [
     'nothing taken 0 VIC0_VAR read without an answer',
 ]
 # seven frames are refused, and one pair is outside
-MARKS = {'grants': 17, 'delivered': 17, 'lost': 5, 'refused': 8, 'sent': 2, 'taken': 2, 'ended': 2}
+MARKS = {'grants': 17, 'delivered': 17, 'lost': 5, 'refused': 8, 'sent': 3, 'TX_TO': 1, 'taken': 2, 'ended': 2}
 SHOWN = ['1042;41,7', '1043;0,185', '1045;41,700', '1044;38,25', '1046;40,05', '1047;39,9', '1048;42,125', '2017;37,6',
          '3108;40,25', '5012;39,4', '7015;38,1', '7016;36,8', '7017;37,45', '8021;40,6']
 # what the day says of the hash: the write of its mode and of its bit, the frames of the two groups, the mode set back
@@ -126,6 +131,20 @@ INTERRUPTED = [
     'taken: VIC0.11 (ENET) by slot 0, over VIC1.0 (UART0)',
     'ended: VIC0.11 (ENET); in service again: VIC1.0 (UART0)',
     'ended: VIC1.0 (UART0); nothing in service',
+]
+
+# what it says of ticks, and of the counters at the end: the frames of the totals
+TIMED_OUT = [
+    'sending starts at 20002020, polling off',
+    'as counted from the answers since the new bench on line 7',
+    'the 3rd tick in a row without a send, TXTOR is 2',
+    'the tick count is cleared, was 1',
+    'not counted: sending is stopped since line 292',
+    'as counted from the answers since the new bench on line 7',
+]
+LAST = [
+    'device report', 'frames delivered 17 17', 'frames lost 5 5', 'frames sent 4 4', 'tick count 0 0',
+    'The counters on line 306 agree with the answers since the new bench on line 7.',
 ]
 
 # ---- short scripts: each line with its answer, and what the report has to say of it
@@ -589,13 +608,80 @@ class Tests:
                         said[-1] == f'peek c 4 -> {word}: packet status of the descriptor at 00000000, {wanted}', said)
 
     def faults(self):
-        for name, script, output, wanted in FAULTS + polling.FAULTS + interrupts.FAULTS:
+        for name, script, output, wanted in FAULTS + polling.FAULTS + interrupts.FAULTS + ticks.FAULTS:
             status, text = self.report(script, output, '--svg', self.folder / 'fault.svg')
             self.expect(name, status == 1 and wanted in text and 'not whole' in text, text)
         status, text = self.report('line\n', 'line 0\n', '--svg', self.folder / 'no' / 'such.svg')
         self.expect('a picture that cannot be written', status == 1 and 'Traceback' not in text, text)
         status, text = self.report('', '', '--svg', self.folder / 'empty.svg')
         self.expect('an empty day', status == 0 and 'calls 0' in rows(text), text)
+
+    def ticks(self, program):
+        """Ticks are told with what they do to the count, and why, and drawn where they set TX_TO; the answers are the console's."""
+        picture = self.folder / 'ticks.svg'
+        for name, lines in [*ticks.DAYS.items(), *ticks.UNSURE.items()]:
+            script, output = ticks.texts(lines)
+            if name in ticks.DAYS:
+                done = subprocess.run([program], input=script.encode(), capture_output=True, timeout=60)
+                self.expect(f'{name}: answers of the console', done.stdout.decode() == output, done.stdout)
+            status, text = self.report(script, output, '--svg', picture)
+            faults = lines.count(ticks.FAULT)
+            self.expect(name, status == (1 if faults else 0) and text.count('FAULT') == faults, text)
+            told = calls(text)
+            for at, (line, answer, wanted, *under) in enumerate(lines, 1):
+                given = told.get(at, ['', 'not told'])
+                self.expect(f'{name}, line {at}: {line[:40]}, {answer[:40]}',
+                            line == ticks.FAULT[0] and at not in told or wanted in ('', given[0]) and under ==
+                            [row for row in given[1:] if not row.startswith('pair ')], given)
+            self.time_outs(name, lines, ElementTree.parse(picture).getroot())
+            for wanted in (ticks.TOTALS | ticks.UNSURE_TOTALS).get(name, []):
+                self.expect(f'{name}: {wanted}', wanted in rows(text), text)
+        status, text = self.report(*ticks.texts(ticks.WORDS))
+        self.expect('lines about ticks', status == 0, text)
+        for at, (line, answer, wanted) in enumerate(ticks.WORDS, 1):
+            given = calls(text).get(at, [''])
+            self.expect(f'{line}, {answer}', given[0].endswith(wanted), given)
+
+    def time_outs(self, name, lines, root):
+        """Each tick that sets TX_TO has a sign, and no other line; the head has how many."""
+        wanted = [(at, f'line {at}: {words}; {under[0]}') for at, (_, _, words, *under) in enumerate(lines, 1) if 'TX_TO is set' in words]
+        given = [(sign.line, sign.title) for sign in signs(root) if sign.kind == 'TX_TO' and sign.number == '']
+        self.expect(f'{name}: signs', given == wanted, given)
+        given = [element.text or '' for element in root.iter(f'{SVG}text')]
+        head = f'; {len(wanted)} send time-out{"" if len(wanted) == 1 else "s"}'
+        self.expect(f'{name}: in the head', any(head in words for words in given) == bool(wanted), given)
+        self.expect(f'{name}: in the legend', 'TX_TO set by a tick' in given and 'TX_TO' in given, given)
+
+    def wrong_ticks(self):
+        """An answer that the rules do not allow is one fault, and behind it nothing is claimed."""
+        days = [ticks.texts([*before, wrong, *ticks.ANYTHING]) for _, before, wrong, _ in ticks.WRONG]
+        for (name, before, wrong, wanted), said in zip(ticks.WRONG, self.told(days)):
+            faults = [at for at, words in enumerate(said) if not words or words.startswith('FAULT ')]
+            at = re.sub(r' since the new bench on line \d+', f' since {ticks.BENCH}', said[len(before)])
+            self.expect(name, faults == [len(before)] and f'FAULT "{wrong[0]}": ' in at and wanted in at, said[len(before):])
+
+    def counters(self):
+        """The last lines have the device's counters beside the report's own, and say whether they agree."""
+        for name, (lines, faults, wanted) in ticks.LAST.items():
+            status, text = self.report(*ticks.texts(lines))
+            self.expect(f'counters: {name}', status == faults and last(text, faults) == wanted, text)
+        sys.path.insert(1, str(ROOT / 'tools'))
+        counting = importlib.import_module('counting')
+        for own, device, agree in ticks.STOPS:
+            given = counting.Asked(1, device, own, 0, {0}).differing()
+            self.expect(f'counters {device} of {own}', (given == []) == agree, given)
+
+    def examples(self, program):
+        self.example(program)
+        script = TICKS.read_bytes()
+        done = subprocess.run([program], input=script, capture_output=True, timeout=60)
+        status, text = self.report(script, done.stdout)
+        self.expect('status of the example of ticks', status == 0, text)
+        given = [row for lines in calls(text).values() for row in lines if re.match('tick -|not counted|the .*tick', row)]
+        self.expect('the example of ticks', given == ticks.EXAMPLE, given)
+        for wanted in ticks.EXAMPLE_TOTALS:
+            self.expect(f'the example of ticks: {wanted}', wanted in rows(text), text)
+        self.expect('the last lines of the example of ticks', last(text) == ticks.EXAMPLE_LAST, text)
 
     def example(self, program):
         script = INTERRUPTS.read_bytes()
@@ -636,7 +722,8 @@ class Tests:
         at = told.index(HASHED[0]) if HASHED[0] in told else 0
         self.expect('the hash of the day', told[at:at + len(HASHED)] == HASHED, text)
         given = [row for lines in calls(text).values() for row in lines[1:] if not row.startswith(('pair ', 'sent '))]
-        self.expect('polling and interrupts on the day', given == POLLED + INTERRUPTED, given)
+        self.expect('polling, interrupts and ticks on the day', given == POLLED + INTERRUPTED + TIMED_OUT, given)
+        self.expect('the last lines of the day', last(text.split('\n\npicture: ')[0]) == LAST, text)
         self.expect('results shown', re.findall(r'descriptor \d of the ring holds 60 bytes, .*"(.*)"', text) == SHOWN, text)
         self.picture(ElementTree.parse(picture).getroot())
 
@@ -647,12 +734,15 @@ class Tests:
             self.expect(f'marks in the picture: {kind}', given == wanted, given)
         given = [[sign.kind for sign in box] for box in boxes(root)]
         self.expect('the burst in the picture', given == [BURST_MARKS], given)
+        given = [sign.title.split('; ', 1)[-1] for sign in signs(root) if sign.kind == 'TX_TO']
+        self.expect('the time-out in the picture', given == [TIMED_OUT[2]], given)
         given = [sign.title.split('; ')[-1] for sign in signs(root) if sign.kind == 'lost']
         self.expect('polling in the picture', given == [words for words in POLLED if re.match('polling .*receiving', words)], given)
         given = [sign.title.split('; ', 1)[-1] for sign in signs(root) if sign.kind in ('taken', 'ended')]
         self.expect('interrupts in the picture', given == [words for words in INTERRUPTED if words[:5] in ('taken', 'ended')], given)
         given = [element.text or '' for element in root.iter(f'{SVG}text')]
-        self.expect('interrupts in the head', any('; 2 interrupts taken, 2 ended' in text for text in given), given)
+        self.expect('time-outs and interrupts in the head',
+                    any('; 1 send time-out; 2 interrupts taken, 2 ended' in text for text in given), given)
         self.expect('fill in the picture', fill(root, max(FILL)) == FILL, fill(root, max(FILL)))
 
 
@@ -721,6 +811,12 @@ def rows(text):
     return [' '.join(line.split()) for line in text.splitlines()]
 
 
+def last(text, faults=0):
+    """The rows of the last lines, behind their heading; with faults the report ends by saying how many."""
+    found = rows(text.split("\nThe device's counters\n")[-1])[1:]
+    return found[:-2] if faults and found[-2] == '' and found[-1].endswith('the report is not whole') else found
+
+
 def calls(text):
     """The calls of a report by their lines in the script, each with the rows under it. A long answer stands on a line of its
     own in the report, and not here."""
@@ -738,6 +834,9 @@ def main(name):
         tests.polling()
         tests.interrupts(program)
         tests.wrong_interrupts()
+        tests.ticks(program)
+        tests.wrong_ticks()
+        tests.counters()
         tests.headings()
         tests.bursts()
         tests.hashes()
@@ -745,7 +844,7 @@ def main(name):
         tests.known()
         tests.statuses()
         tests.faults()
-        tests.example(program)
+        tests.examples(program)
         tests.day(program)
     print(f'report: {tests.passed} passed, {tests.failed} failed')
     return 1 if tests.failed or not tests.passed else 0
