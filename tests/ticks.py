@@ -152,6 +152,8 @@ DAYS = {
         ('poke 80e 00', 'poke ok', ''), not_counted(NOT_GRANTED, 1), ('poke 80e ff', 'poke ok', ''), tick(1),
         # the length, the buffer and the next word are nothing to a tick
         poke(0x800, 0x4000, 0xffffffff, 0xffffffff), tick(2),
+        # every bit but VALID, and VALID alone
+        poke(0x80c, 0xfffeffff), not_counted(NOT_GRANTED, 2), GRANT, tick(1),
     ],
     # all sixteen bytes must lie in the window
     'the window': [
@@ -210,7 +212,7 @@ DAYS = {
 TOTALS = {
     'a value of 3': ['ticks made 9', 'ticks refused 0', 'TX_TO set 2'],
     'refused': ['ticks made 2', 'ticks refused 3', 'TX_TO set 1'],
-    'what does not count': ['ticks made 8', 'TX_TO set 0'],
+    'what does not count': ['ticks made 10', 'TX_TO set 0'],
 }
 
 # ---- where the report cannot know: the days begin with a fault, or without a new bench; none of the lines behind is a fault
@@ -221,7 +223,6 @@ RUNS_UNKNOWN, GRANT_UNKNOWN = 'whether sending runs is not known', 'whether the 
 WINDOW_UNKNOWN = 'whether the descriptor at 00000800 is in the window is not known'
 MAY_SET = ', nor whether this sets TX_TO'
 AT = 'state', 'state 0 00000000 1 00000800', ''
-KNOWN_AGAIN = [('lend 4096', 'lend', ''), ('peek 0 0', 'peek -', '')]
 
 
 def unknown(why):
@@ -233,7 +234,10 @@ def told(delivered, lost, sent, count, counted, since="the script's first line")
     return counters(delivered, lost, sent, count, f'counted from the answers since {since}: {counted}')
 
 
-# the status word of the descriptor at 804 is the next word of that at 808: a delivery into it leaves what the report does not follow
+# the start word of the descriptor at 108 is the packet status of that at 100: where a frame lies is not known behind a delivery, nor
+# then what it left of any descriptor
+LOST_TRACK = [NEW, poke(0x108, 0x4600, 0x400, 0x201, 0x10000), ('grant 100', 'grant 0', ''), write(0x1c, 0x109),
+              write(0x10, 5, 'receiving starts at 00000108, polling on'), poke(0x800, *DESCRIPTOR), write(0x3c, 0x801)]
 UNSURE = {
     'without a new bench': [
         unknown(RUNS_UNKNOWN + MAY_SET), refused(), AT, unknown(WINDOW_UNKNOWN + MAY_SET), write(0x48, 3), unknown(WINDOW_UNKNOWN + MAY_SET),
@@ -252,19 +256,34 @@ UNSURE = {
         frame(0), counters(1, 0, 1, 77, 'as counted from the answers since the new bench on line 1'),
         NEW, counters(0, 0, 0, 0, since=14), not_counted('TXTOR is 0'),
     ],
-    # at a place that is known in a window that is known: the packet status is what a frame left that lies nobody knows where
-    'a status word by the device': [
-        NEW, poke(0x108, 0x4600, 0x400, 0x201, 0x10000), poke(0x200, 0x4600, 0x400, 0x301, 0x10000), ('grant 100', 'grant 0', ''),
-        write(0x1c, 0x109), write(0x10, 5, 'receiving starts at 00000108, polling on'), poke(0x800, *DESCRIPTOR), write(0x3c, 0x801),
-        write(0x48, 2), STARTS, tick(1), frame(0), tick('not known', GRANT_UNKNOWN), tick('not known', GRANT_UNKNOWN + MAY_SET),
+    # the length that is lent is known, and that of the window is not
+    'lent without a new bench': [lend(60), unknown(RUNS_UNKNOWN + MAY_SET), refused(), lend(4096), unknown(RUNS_UNKNOWN + MAY_SET)],
+    'at their stop': [
+        counters(STOP, 1, STOP, 0, "counted from the answers since the script's first line: 0 delivered, 0 lost, 0 sent",
+                 'no further than 4,294,967,295: delivered and sent'),
+    ],
+    'a status word that a frame may lie over': [
+        *LOST_TRACK, write(0x48, 2), STARTS, tick(1), frame(0), tick('not known', GRANT_UNKNOWN), tick('not known', GRANT_UNKNOWN + MAY_SET),
         ('line', 'line 0', ''), GRANT, tick('not known', COUNT_UNKNOWN), tick('not known', COUNT_UNKNOWN + MAY_SET), counters(1, 0, 0, 2),
         fires('3rd', 2), tick(1),
     ],
+    # the same of one that a call granted; and a byte of the word the call wrote
+    'granted by a call before': [
+        *LOST_TRACK, RETURN, ('grant 800', 'grant 0', ''), write(0x48, 9), STARTS, tick(1), frame(0), tick('not known', GRANT_UNKNOWN),
+    ],
+    'a byte of a status word': [
+        *LOOPED, RETURN, ('grant 800', 'grant 0', ''), write(0x48, 9), STARTS, tick(1), ('poke 80e 00', 'poke ok', ''),
+        tick('not known', GRANT_UNKNOWN), RETURN, not_counted(NOT_GRANTED),
+    ],
+    # the count is 0 behind it whether the tick counts or not; TX_TO is in doubt, and from which time-out on the next row goes
+    'a bit in doubt': [
+        *LOST_TRACK, write(0x48, 1), write(4, 0x80000), STARTS, tick(1), fires('2nd', 1), write(8, 0x80000), tick(1), frame(0),
+        tick(0, GRANT_UNKNOWN + MAY_SET), ('line', 'line 1', ''), read(8, 0xd8001), write(8, 0x80000), GRANT, counters(1, 0, 0, 0),
+        tick(1), fires('2nd', 1),
+    ],
     # every count that there can be is above
     'a later one': [
-        NEW, poke(0x108, 0x4600, 0x400, 0x201, 0x10000), ('grant 100', 'grant 0', ''), write(0x1c, 0x109),
-        write(0x10, 5, 'receiving starts at 00000108, polling on'), poke(0x800, *DESCRIPTOR), write(0x3c, 0x801), write(0x48, 9), STARTS,
-        frame(0), tick('not known', GRANT_UNKNOWN), GRANT, tick('not known', COUNT_UNKNOWN), write(0x48, 1),
+        *LOST_TRACK, write(0x48, 9), STARTS, frame(0), tick('not known', GRANT_UNKNOWN), GRANT, tick('not known', COUNT_UNKNOWN), write(0x48, 1),
         ('tick', 'tick 0', 'tick -> 0 done: TX_TO is set, the tick count is 0', 'a later tick in a row without a send, TXTOR is 1'),
         counters(1, 0, 0, 0),
     ],
@@ -347,6 +366,9 @@ FAULTS = [
     no_answer('a counter of eleven digits', 'counters', 'counters 10000000000 0 0 0'),
     no_answer('counters with two blanks', 'counters', 'counters 0 0  0 0'),
     ('a count above 16 bits', *texts([counters(0, 0, 0, 65536)]), 'a tick count of 65536, yet TXTOR has 16 bits'),
+    ('a count where the register is 0', *texts([read(0x48, 0), counters(0, 0, 0, 5)]), 'a tick count of 5, yet by the calls before it is 0'),
+    ('one of two counts', *texts([*LOST_TRACK, write(0x48, 9), START, frame(0), tick(0), counters(1, 0, 0, 2)]),
+     'a tick count of 2, followed 0 or 1, since the new bench on line 1'),
     fault('a tick with a word', 'tick 1', 'tick 0', '"tick 1" is no call known here'),
     fault('counters with a word', 'counters 0', 'counters 0 0 0 0', '"counters 0" is no call known here'),
 ]

@@ -18,7 +18,8 @@ def counted(call):
     """The frames that a call delivered, lost and sent, by its answer."""
     if call.name == 'frame':
         answers = call.answer
-    elif call.name == 'burst' and call.answer[0] == 0:
+    elif call.name == 'burst':
+        # a refused one leaves none of these numbers
         answers = call.answer[1]
     else:
         answers = []
