@@ -6,7 +6,7 @@ What the sample days have to come to is worked out by hand from documents 01 and
 Usage: report.py PROGRAM   (the bench console)
 """
 import dataclasses
-import importlib
+import json
 import os
 import pathlib
 import re
@@ -665,10 +665,11 @@ class Tests:
         for name, (lines, faults, wanted) in ticks.LAST.items():
             status, text = self.report(*ticks.texts(lines))
             self.expect(f'counters: {name}', status == faults and last(text, faults) == wanted, text)
-        sys.path.insert(1, str(ROOT / 'tools'))
-        counting = importlib.import_module('counting')
-        for own, device, agree in ticks.STOPS:
-            given = counting.Asked(1, device, own, 0, {0}).differing()
+        # no script comes to a counter's stop, so these numbers are given to the comparison itself
+        asked = ('import counting, json, sys; '
+                 'print(json.dumps([counting.Asked(1, device, own, 0, {0}).differing() for own, device, _ in json.loads(sys.argv[1])]))')
+        done = subprocess.run([sys.executable, '-c', asked, json.dumps(ticks.STOPS)], cwd=REPORT.parent, capture_output=True, timeout=60)
+        for (own, device, agree), given in zip(ticks.STOPS, json.loads(done.stdout or '[]'), strict=True):
             self.expect(f'counters {device} of {own}', (given == []) == agree, given)
 
     def examples(self, program):

@@ -58,7 +58,8 @@ class Asked:
 
     def differing(self):
         """The counters that differ, in words."""
-        found = [f'{there} {kind}, counted {here}' for kind, there, here in zip(KINDS, self.device, shown(self.own)) if there != here]
+        found = [f'{there} {kind}, counted {here}'
+                 for kind, there, here in zip(KINDS, self.device, shown(self.own)) if there != here]
         if self.possible is not None and self.tick_count not in self.possible:
             found.append(f'a tick count of {self.tick_count}, followed {ticks.choice(self.possible)}')
         return found

@@ -209,7 +209,8 @@ class Engines:
         named = 'its descriptor' if place is None else self.named(place)
         rules = [
             (self.sending.runs, self.sending.standing(), 'whether sending runs'),
-            (None if place is None else self.memory.has(place), f'{named} is not all in the window', f'whether {named} is in the window'),
+            (None if place is None else self.memory.has(place), f'{named} is not all in the window',
+             f'whether {named} is in the window'),
             (None if place is None else self.memory.grants(place), f'{named} is not granted', f'whether {named} is granted'),
         ]
         for holds, words, _ in rules:

@@ -1,4 +1,5 @@
-"""The picture of a bench day: what became of grants, frames, sends that timed out and interrupts, and the ring's fill, over the calls.
+"""The picture of a bench day: what became of grants, frames, sends that timed out and interrupts, and the ring's
+fill, over the calls.
 
 A call has one column; a burst has one for each of its pairs, with a box around them.
 """
