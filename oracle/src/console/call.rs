@@ -30,6 +30,8 @@ pub enum Call {
     Peek { address: u32, length: u32 },
     Check,
     State,
+    Tick,
+    Counters,
     Interrupts(Interrupts),
 }
 
@@ -84,6 +86,8 @@ impl Call {
             },
             [b"check"] => Call::Check,
             [b"state"] => Call::State,
+            [b"tick"] => Call::Tick,
+            [b"counters"] => Call::Counters,
             ref words => Call::Interrupts(Interrupts::parse(words)?),
         })
     }

@@ -7,7 +7,7 @@ mod parse;
 #[cfg(test)]
 mod tests;
 
-use crate::device::Bench;
+use crate::device::{Bench, Counters};
 use crate::vic::{self, Levels};
 use crate::{check, hex};
 pub use call::Call;
@@ -137,6 +137,15 @@ impl Console {
                 let [receive, send] = engines
                     .map(|engine| format!("{} {:08x}", u32::from(engine.running), engine.place));
                 format!("state {receive} {send}")
+            }
+            Call::Tick => format!("tick {}", self.bench.tick(lent)),
+            Call::Counters => {
+                let Counters {
+                    delivered,
+                    lost,
+                    sent,
+                } = self.bench.counters;
+                format!("counters {delivered} {lost} {sent} {}", self.bench.ticks)
             }
             Call::Interrupts(call) => {
                 let levels = self.levels();

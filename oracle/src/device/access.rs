@@ -30,6 +30,10 @@ impl Bench {
             }
         }
         self.registers.put(form, value);
+        // "Value 0 keeps it at 0, from the write on": the value that the register takes.
+        if form.name == Name::SendTimeOut && self.registers.get(Name::SendTimeOut) == 0 {
+            self.ticks = 0;
+        }
         DONE
     }
 

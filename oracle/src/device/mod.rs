@@ -2,6 +2,7 @@
 
 mod access;
 mod burst;
+mod counters;
 mod descriptor;
 mod engine;
 mod grant;
@@ -12,9 +13,11 @@ mod ring;
 mod send;
 #[cfg(test)]
 mod tests;
+mod tick;
 mod window;
 
 pub use burst::Pair;
+pub use counters::Counters;
 pub use descriptor::{POLLING, SIZE as DESCRIPTOR_SIZE, VALID};
 pub use engine::Engine;
 pub use send::StepRun;
@@ -23,13 +26,16 @@ pub use window::Window;
 use crate::numbers;
 use registers::Registers;
 
-/// A bench: registers, engines and the window it was made for. Memory is lent at each call.
+/// A bench: registers, engines, counters and the window it was made for. Memory is lent at each call.
 #[derive(Clone, Debug, PartialEq, Eq)]
 pub struct Bench {
     pub window: Window,
     registers: Registers,
     pub receiver: Engine,
     pub sender: Engine,
+    pub counters: Counters,
+    /// How many ticks in a row have found a frame that waits to be sent.
+    pub ticks: u32,
 }
 
 impl Bench {
@@ -45,6 +51,9 @@ impl Bench {
             registers: Registers::reset(),
             receiver: Engine::default(),
             sender: Engine::default(),
+            // "The reset state has all four at 0."
+            counters: Counters::default(),
+            ticks: 0,
         };
         (bench, number)
     }

@@ -11,6 +11,12 @@ use crate::verdict;
 impl Bench {
     /// A frame from the wire, check sequence included.
     pub fn receive(&mut self, memory: &mut [u8], frame: &[u8]) -> u32 {
+        let number = self.take_in(memory, frame);
+        self.counters.received(number);
+        number
+    }
+
+    fn take_in(&mut self, memory: &mut [u8], frame: &[u8]) -> u32 {
         if !self.window.is_lent(memory) {
             return LENT_LENGTH;
         }

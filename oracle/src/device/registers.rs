@@ -1,5 +1,6 @@
-//! The eleven modelled registers with their positions from chapter 8 of RM0006: nine of the base,
-//! and the two hash registers, which "leave row 2's reach".
+//! The twelve modelled registers with their positions from chapter 8 of RM0006: nine of the base, the
+//! two hash registers, which "leave row 2's reach", and ENET_TXTOR, which "joins the modelled
+//! registers".
 
 #[derive(Clone, Copy, Debug, PartialEq, Eq)]
 pub enum Name {
@@ -14,6 +15,7 @@ pub enum Name {
     AddressLow,
     HashHigh,
     HashLow,
+    SendTimeOut,
 }
 
 /// Where a register stands, what it holds after reset and which bits a write reaches.
@@ -34,7 +36,7 @@ const fn form(name: Name, offset: u32, reset: u32, writable: u32) -> Form {
 }
 
 /// How many registers are modelled.
-const COUNT: usize = 11;
+const COUNT: usize = 12;
 
 /// In the order of `Name`.
 pub const FORMS: [Form; COUNT] = [
@@ -49,11 +51,14 @@ pub const FORMS: [Form; COUNT] = [
     form(Name::AddressLow, 0x408, 0xFFFF_FFFF, 0xFFFF_FFFF),
     form(Name::HashHigh, 0x40C, 0x0000_0000, 0xFFFF_FFFF),
     form(Name::HashLow, 0x410, 0x0000_0000, 0xFFFF_FFFF),
+    // "It is 16 bits and writable, though its cells say r."
+    form(Name::SendTimeOut, 0x048, 0x0000_0000, 0x0000_FFFF),
 ];
 
-/// Status and enable bits that the base raises.
+/// Status and enable bits that the base raises, and the time-out of sending.
 pub const TX_CURR_DONE: u32 = 1 << 31;
 pub const TX_DONE: u32 = 1 << 23;
+pub const TX_TO: u32 = 1 << 19;
 pub const RX_CURR_DONE: u32 = 1 << 15;
 pub const RX_DONE: u32 = 1 << 7;
 pub const PACKET_LOST: u32 = 1 << 5;
@@ -130,5 +135,6 @@ mod tests {
             Registers::at(0x400).unwrap().writable,
             !bits(&[29, 28, 27, 26, 14, 13, 1])
         );
+        assert_eq!(Registers::at(0x48).unwrap().writable, 0xFFFF);
     }
 }

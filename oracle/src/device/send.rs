@@ -32,13 +32,17 @@ impl Bench {
         if output.len() < OUTPUT_LEAST {
             return (OUTPUT_SHORT, 0);
         }
-        match self.next_frame(memory) {
+        let (number, sent) = match self.next_frame(memory) {
             Err(number) => (number, 0),
             Ok(frame) => {
                 output[..frame.len()].copy_from_slice(&frame);
+                // "A send answering 0 clears it too": the count of ticks.
+                self.ticks = 0;
                 (DONE, frame.len())
             }
-        }
+        };
+        self.counters.sent(number);
+        (number, sent)
     }
 
     /// The send engine's next frame, or the number that there is none by.

@@ -1,6 +1,7 @@
 //! The console's own rules; what the calls do is tested with the device.
 
 mod bursts;
+mod counters;
 mod interrupts;
 
 use super::*;
@@ -44,6 +45,11 @@ fn malformed_lines_change_nothing() {
         "frame",
         "check 0",
         "state 1",
+        "tick 0",
+        "tick ",
+        "ticks",
+        "counters 0",
+        "counter",
     ];
     for line in lines {
         assert_eq!(

@@ -2,6 +2,7 @@
 
 mod bursts;
 mod by_hash;
+mod counters;
 mod grants;
 mod marked;
 mod polling;
@@ -12,6 +13,7 @@ mod register_access;
 mod rings;
 mod sending;
 mod step_runs;
+mod ticks;
 
 use super::Bench;
 use crate::check;
@@ -31,6 +33,7 @@ const RX_START: u32 = 0x10;
 const RX_NEXT: u32 = 0x1C;
 const TX_START: u32 = 0x30;
 const TX_NEXT: u32 = 0x3C;
+const TIME_OUT: u32 = 0x48;
 const CONTROL: u32 = 0x400;
 const HASH_HIGH: u32 = 0x40C;
 const HASH_LOW: u32 = 0x410;

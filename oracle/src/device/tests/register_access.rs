@@ -16,6 +16,7 @@ fn reset_values() {
         (0x408, 0xFFFF_FFFF),
         (0x40C, 0),
         (0x410, 0),
+        (0x48, 0),
     ];
     for (offset, value) in values {
         assert_eq!(bench.read(offset), (0, value), "{offset:x}");
@@ -28,7 +29,7 @@ fn every_other_offset_is_not_modelled() {
     let (mut bench, _) = Bench::new(0, 64);
     let before = bench.clone();
     let modelled = [
-        0x04, 0x08, 0x10, 0x1C, 0x30, 0x3C, 0x400, 0x404, 0x408, 0x40C, 0x410,
+        0x04, 0x08, 0x10, 0x1C, 0x30, 0x3C, 0x48, 0x400, 0x404, 0x408, 0x40C, 0x410,
     ];
     for offset in (0..0x500).chain([0x8000_0004, u32::MAX]) {
         if !modelled.contains(&offset) {
@@ -51,6 +52,7 @@ fn reserved_bits_stay_zero() {
         (0x408, 0xFFFF_FFFF),
         (0x40C, 0xFFFF_FFFF),
         (0x410, 0xFFFF_FFFF),
+        (0x48, 0x0000_FFFF),
     ] {
         assert_eq!(bench.write(offset, u32::MAX), 0);
         assert_eq!(bench.read(offset), (0, kept), "{offset:x}");
