@@ -8,10 +8,11 @@ use oracle::tally::Tally;
 use std::path::Path;
 use std::process::ExitCode;
 
-/// Console lines for the bench, those for the interrupt controllers beside it, and those in one run
-/// of the program.
+/// Console lines for the bench, those for the interrupt controllers beside it, those for ticks and
+/// counters, and those in one run of the program.
 const CALLS: usize = 400_000;
 const INTERRUPT_CALLS: usize = 250_000;
+const TICK_CALLS: usize = 100_000;
 const CALLS_A_RUN: usize = 4_000;
 
 fn main() -> ExitCode {
@@ -47,16 +48,22 @@ fn arguments(words: &[String]) -> Option<(&str, usize, u64)> {
     Some((path, calls as usize, seed))
 }
 
-/// The scripts made by hand, then random ones for the bench, and for the interrupt controllers by
-/// their share.
+/// The scripts made by hand, then random ones for the bench, and for the interrupt controllers and
+/// the ticks by their shares.
 fn batches(calls: usize, seed: u64) -> impl Iterator<Item = Script> {
-    let interrupt_calls = calls * INTERRUPT_CALLS / CALLS;
+    let share = |whole| calls * whole / CALLS;
     let bench = random_batches(calls, seed, scripts::random_script);
-    let interrupts = random_batches(interrupt_calls, seed, scripts::interrupts::random_script);
+    let interrupts = random_batches(
+        share(INTERRUPT_CALLS),
+        seed,
+        scripts::interrupts::random_script,
+    );
+    let ticks = random_batches(share(TICK_CALLS), seed, scripts::ticks::random_script);
     scripts::hand_made::scripts()
         .into_iter()
         .chain(bench)
         .chain(interrupts)
+        .chain(ticks)
 }
 
 /// Random scripts joined to long ones until there are enough lines.

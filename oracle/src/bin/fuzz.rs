@@ -8,9 +8,11 @@ use oracle::tally::Tally;
 use std::path::Path;
 use std::process::ExitCode;
 
-/// Scripts joined in one run of the program: for the bench, and for the interrupt controllers.
+/// Scripts joined in one run of the program: for the bench, for the interrupt controllers, and for
+/// ticks and counters.
 const SCRIPTS_A_RUN: usize = 20;
 const INTERRUPT_SCRIPTS_A_RUN: usize = 10;
+const TICK_SCRIPTS_A_RUN: usize = 4;
 
 fn main() -> ExitCode {
     let words: Vec<String> = std::env::args().skip(1).collect();
@@ -30,6 +32,9 @@ fn main() -> ExitCode {
         }
         for _ in 0..INTERRUPT_SCRIPTS_A_RUN {
             script.extend(scripts::interrupts::random_script(&mut random));
+        }
+        for _ in 0..TICK_SCRIPTS_A_RUN {
+            script.extend(scripts::ticks::random_script(&mut random));
         }
         if let Some(found) = compare::difference(Path::new(path), &script, &mut tally) {
             print!("{}", compare::report(Path::new(path), &script, &found));

@@ -1,6 +1,6 @@
 //! Counts the answers that a comparison meets, and names those it must.
 
-use super::{bursts, hashes, interrupts, polling, reasons};
+use super::{bursts, counters, hashes, interrupts, polling, reasons};
 use crate::tally::Tally;
 use std::fmt;
 
@@ -8,8 +8,9 @@ use std::fmt;
 const LEAST: usize = 100;
 
 /// Calls whose answer is a number.
-const NUMBERED: [&str; 11] = [
+const NUMBERED: [&str; 12] = [
     "new", "read", "write", "grant", "frame", "burst", "send", "run", "show", "vread", "vwrite",
+    "tick",
 ];
 
 /// Counts the answer to a line under its call and, if it is a number, under that.
@@ -35,7 +36,7 @@ fn number_name(number: impl fmt::Display) -> String {
 }
 
 /// Answers that a whole comparison must have met, by call.
-const ANSWERS: [(&str, &[u32]); 11] = [
+const ANSWERS: [(&str, &[u32]); 12] = [
     ("new", &[0, 1]),
     ("read", &[0, 2]),
     ("write", &[0, 2, 15]),
@@ -47,11 +48,13 @@ const ANSWERS: [(&str, &[u32]); 11] = [
     ("show", &[0, 11, 13]),
     ("vread", &[0, 2]),
     ("vwrite", &[0, 2]),
+    ("tick", &[0, 11]),
 ];
 
 /// Names every answer there is, so that one never met is seen.
 pub fn expect(tally: &mut Tally) {
     bursts::expect(tally);
+    counters::expect(tally);
     hashes::expect(tally);
     interrupts::expect(tally);
     polling::expect(tally);
@@ -74,6 +77,7 @@ pub fn expect(tally: &mut Tally) {
         "peek outside",
         "check",
         "state",
+        "counters",
         "inputs",
         "irq",
         "irq none",
@@ -89,7 +93,8 @@ pub fn least(kind: &str) -> usize {
     let asked = hashes::least(kind)
         .or_else(|| interrupts::least(kind))
         .or_else(|| polling::least(kind))
-        .or_else(|| reasons::least(kind));
+        .or_else(|| reasons::least(kind))
+        .or_else(|| counters::least(kind));
     match asked {
         Some(least) => least,
         None if bursts::is_answer(kind) => bursts::ANSWER_LEAST,

@@ -3,9 +3,11 @@
 pub mod answers;
 mod bursts;
 mod came;
+mod counters;
 mod hashes;
 mod interrupts;
 mod polling;
+mod readings;
 mod reasons;
 mod shorten;
 
@@ -54,6 +56,7 @@ pub fn difference(program: &Path, script: &Script, tally: &mut Tally) -> Option<
     let mut watch = polling::Watch::default();
     let mut reasons = reasons::Watch::default();
     let mut interrupts = interrupts::Watch::default();
+    let mut counters = counters::Watch::default();
     for (place, line) in script.iter().enumerate() {
         reasons.before(line, &console);
         let Some(wanted) = console.take(line) else {
@@ -64,6 +67,7 @@ pub fn difference(program: &Path, script: &Script, tally: &mut Tally) -> Option<
         watch.count(tally, line, &wanted, &console);
         reasons.count(tally, line, &wanted, &console);
         interrupts.count(tally, line, &wanted, &console);
+        counters.count(tally, line, &wanted, &console);
         let got = written.next().unwrap_or(b"");
         if got != format!("{wanted}\n").as_bytes() {
             let got = match got {

@@ -49,6 +49,8 @@ fn lines_that_cannot_stand_there() {
         "send 1518",
         "hello",
         "state",
+        "tick",
+        "counters",
         "new 0 64 ",
     ] {
         assert_eq!(wrong(&format!("#\n{line}\nnew 0 64\n")), 2, "{line}");
@@ -64,6 +66,8 @@ fn lines_that_cannot_stand_there() {
         "burst 0 -",
         "run 1 1518",
         "check",
+        "tick",
+        "counters",
         " ",
     ] {
         assert_eq!(

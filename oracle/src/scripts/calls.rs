@@ -6,8 +6,8 @@ use crate::frames::{self, Destination, Ending};
 use crate::{groups, hex};
 
 /// The modelled offsets.
-pub const OFFSETS: [u32; 11] = [
-    0x04, 0x08, 0x10, 0x1C, 0x30, 0x3C, 0x400, 0x404, 0x408, 0x40C, 0x410,
+pub const OFFSETS: [u32; 12] = [
+    0x04, 0x08, 0x10, 0x1C, 0x30, 0x3C, 0x48, 0x400, 0x404, 0x408, 0x40C, 0x410,
 ];
 
 /// The most bytes of a frame that a line can name.
@@ -18,6 +18,9 @@ impl Writer {
     pub fn observe(&mut self) {
         self.say("check");
         self.say("state");
+        if self.random.once_in(2) {
+            self.say("counters");
+        }
         if self.random.once_in(3) {
             for offset in OFFSETS {
                 self.say(format!("read {offset:x}"));
@@ -170,6 +173,9 @@ impl Writer {
         let room = sent + 1_517 + self.random.below(3);
         let allowance = self.allowance();
         self.say(format!("run {allowance} {}", room.min(65_536)));
+        if self.random.once_in(3) {
+            self.say("counters");
+        }
     }
 
     /// Lends another length for a few calls.
@@ -193,7 +199,7 @@ impl Writer {
 
     /// Any call that makes no new bench.
     pub fn any(&mut self) {
-        match self.random.below(16) {
+        match self.random.below(18) {
             0 | 1 => {
                 self.frame();
             }
@@ -232,6 +238,10 @@ impl Writer {
             12 => self.register_write(),
             13 | 14 => {
                 self.burst();
+            }
+            15 | 16 => {
+                self.say("tick");
+                self.say("counters");
             }
             _ => self.register_read(),
         }

@@ -5,7 +5,7 @@ use super::{interrupts, malformed_bursts};
 use crate::random::Random;
 
 /// One good line of each form.
-const GOOD: [&str; 17] = [
+const GOOD: [&str; 19] = [
     "new 0 64",
     "lend 64",
     "read 8",
@@ -23,6 +23,8 @@ const GOOD: [&str; 17] = [
     "peek 0 16",
     "check",
     "state",
+    "tick",
+    "counters",
 ];
 
 /// Words that are no number of any kind, or one out of its form.
@@ -46,7 +48,7 @@ const WORDS: [&str; 16] = [
 ];
 
 /// Lines that start with nothing good.
-const OTHERS: [&[u8]; 14] = [
+const OTHERS: [&[u8]; 17] = [
     b" ",
     b"  ",
     b"\t",
@@ -60,6 +62,9 @@ const OTHERS: [&[u8]; 14] = [
     b"reads 8",
     b"rea 8",
     b"check\0",
+    b"tick 1",
+    b"counters 0",
+    b"counter",
     b"\xFF\xFE",
 ];
 

@@ -18,6 +18,7 @@ mod reasons;
 mod receiving;
 mod register_access;
 mod sending;
+pub mod ticks;
 mod windows;
 mod writer;
 

@@ -4,7 +4,7 @@ use super::calls::OFFSETS;
 use super::writer::Writer;
 
 /// Registers of chapter 8 that are not modelled, and offsets beside the modelled ones or past its end.
-const OTHERS: [u32; 24] = [
+const OTHERS: [u32; 25] = [
     0x00,
     0x0C,
     0x14,
@@ -17,7 +17,8 @@ const OTHERS: [u32; 24] = [
     0x38,
     0x40,
     0x44,
-    0x48,
+    0x47,
+    0x49,
     0x4C,
     0x100,
     0x200,
@@ -53,6 +54,7 @@ impl Writer {
         let value = match offset {
             0x10 | 0x30 => self.start_value(),
             0x1C | 0x3C => self.mark() | self.low_bits(),
+            0x48 => self.time_out(),
             _ => self.value(),
         };
         self.say(format!("write {offset:X} {value:X}"));

@@ -11,7 +11,7 @@ const FRAME_MOST: usize = 3_000;
 pub fn any(random: &mut Random) -> Event {
     match random.below(8) {
         0 | 1 => Event::Write {
-            offset: random.pick(&[0, 4, 8, 0x10, 0x30, 0x400, 0x414, u32::MAX]),
+            offset: random.pick(&[0, 4, 8, 0x10, 0x30, 0x48, 0x48, 0x400, 0x414, u32::MAX]),
             value: random.word(),
         },
         2 => Event::Write {

@@ -31,12 +31,16 @@ pub fn traffic(random: &mut Random) -> Tape {
         value: random.pick(&[0, 1 << 31, 5 << 17]),
     });
     for _ in 0..random.between(10, 60) {
-        events.extend(match random.below(10) {
+        events.extend(match random.below(11) {
             0..=2 => vec![grant(&receive, random), frame(random)],
             3 => vec![frame(random)],
             4 => vec![grant(&receive, random)],
             5..=7 => vec![grant(&send, random), Event::Send],
             8 => vec![Event::Send],
+            9 => vec![Event::Write {
+                offset: 0x48,
+                value: random.pick(&[0, 1, 5, 0xFFFF, 0x1_0000, 0xABCD_0003]),
+            }],
             _ => starts(receive[0], send[0]),
         });
     }

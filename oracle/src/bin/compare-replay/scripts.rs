@@ -177,6 +177,8 @@ fn other_command(random: &mut Random) -> Vec<u8> {
         "peek 0 1",
         "check",
         "state",
+        "tick",
+        "counters",
         "vread 0 30",
         "vwrite 0 10 800",
         "inputs 0 1",

@@ -66,7 +66,7 @@ impl Watch {
 
 /// The numbers that an engine gave to a line's frames or sends, in order. Behind an 8 no line goes
 /// on to another place, so that the flag at its end is that of all its 8.
-fn answers(answer: &str) -> (Side, Vec<u32>) {
+pub fn answers(answer: &str) -> (Side, Vec<u32>) {
     let words: Vec<&str> = answer.split(' ').collect();
     match words[..] {
         ["frame", number] => (Side::Receiving, numbers(&[number])),

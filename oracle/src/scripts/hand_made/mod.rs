@@ -5,6 +5,7 @@ mod hashes;
 mod interrupts;
 mod polling;
 mod reasons;
+mod ticks;
 
 use crate::compare::Script;
 use crate::{check, hex};
@@ -25,7 +26,7 @@ const ALMOST: [u8; 6] = [0xFF, 0xFF, 0xFF, 0xFF, 0xFF, 0xFE];
 /// All state, as the console can show it.
 const LOOK: &str =
     "state\ncheck\nline\nread 4\nread 8\nread 10\nread 1c\nread 30\nread 3c\nread 400\n\
-                    read 404\nread 408\nread 40c\nread 410\n";
+                    read 404\nread 408\nread 40c\nread 410\nread 48\ncounters\n";
 
 pub fn scripts() -> Vec<Script> {
     let texts = [
@@ -67,6 +68,14 @@ pub fn scripts() -> Vec<Script> {
         interrupts::statuses(),
         interrupts::ethernet(),
         interrupts::forms(),
+        ticks::before_any_new(),
+        ticks::up_to_each_value(),
+        ticks::a_long_count(),
+        ticks::register(),
+        ticks::causes(),
+        ticks::sends(),
+        ticks::counted_frames(),
+        ticks::forms(),
     ];
     texts
         .iter()

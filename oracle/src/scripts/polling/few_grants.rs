@@ -7,7 +7,7 @@ use crate::scripts::writer::Writer;
 use crate::side::Side;
 
 /// The bytes of each buffer: enough for a short frame, and not too many to be sent.
-const SIZE: u32 = 80;
+pub const SIZE: u32 = 80;
 
 pub fn on_both_engines(writer: &mut Writer) {
     let counts = [(); 2].map(|()| writer.random.between(1, 4));
@@ -35,7 +35,7 @@ pub fn on_both_engines(writer: &mut Writer) {
 
 /// Two chains of these lengths one behind the other, their buffers behind both. Each goes round, but
 /// that one descriptor in eight ends it.
-fn chains(writer: &mut Writer, counts: [usize; 2]) -> Vec<Place> {
+pub fn chains(writer: &mut Writer, counts: [usize; 2]) -> Vec<Place> {
     let base = writer.base();
     let address = |place: usize| base.wrapping_add(16 * place as u32);
     let buffers = address(counts[0] + counts[1]);

@@ -3,7 +3,7 @@
 mod few_grants;
 mod steps;
 
-pub use few_grants::on_both_engines;
+pub use few_grants::{chains, on_both_engines, SIZE};
 pub use steps::{change_next_word, go_on, is_8, start_again};
 
 use super::layout::{Place, POLLING};

@@ -1,28 +1,6 @@
 //! Wrong readings of chapter 4 and of the rules for it.
 
-use std::fmt;
-
-/// Lists the readings with their names once, so that none is left out of `ALL`.
-macro_rules! slips {
-    ($($name:ident $text:literal,)*) => {
-        #[derive(Clone, Copy, Debug, PartialEq, Eq)]
-        pub enum Slip {
-            $($name,)*
-        }
-
-        impl Slip {
-            pub const ALL: &[Slip] = &[$(Slip::$name,)*];
-        }
-
-        impl fmt::Display for Slip {
-            fn fmt(&self, out: &mut fmt::Formatter) -> fmt::Result {
-                out.write_str(match self {
-                    $(Slip::$name => $text,)*
-                })
-            }
-        }
-    };
-}
+use crate::compare::readings::slips;
 
 slips! {
     // Which request is the highest.
