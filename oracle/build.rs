@@ -1,10 +1,11 @@
 //! Tells the linker where the model's libraries lie, when a comparison asks for one.
 
 /// Each feature that asks for a library, as cargo names it, and the library.
-const LIBRARIES: [(&str, &str); 3] = [
+const LIBRARIES: [(&str, &str); 4] = [
     ("CARGO_FEATURE_LIBRARY", "libtockfeather.a"),
     ("CARGO_FEATURE_TRACE_LIBRARY", "libtrace_trial.a"),
     ("CARGO_FEATURE_CAPTURE_LIBRARY", "libpcap_trial.a"),
+    ("CARGO_FEATURE_COUNTER_LIBRARY", "libcounter_trial.a"),
 ];
 
 fn main() {

@@ -5,6 +5,13 @@ use std::fmt::LowerHex;
 /// What a number of a found list holds before the call; it is none that is ever found.
 pub const BEFORE: u64 = 0xDEAD_BEEF_DEAD_BEEF;
 
+/// A list of this length at whose front these numbers were put: what does not fit is left out, and
+/// what is behind them stays.
+pub fn list(numbers: &[u64], length: usize) -> Vec<u64> {
+    let behind = std::iter::repeat(BEFORE);
+    numbers.iter().copied().chain(behind).take(length).collect()
+}
+
 /// The first number found otherwise, by its name; a list may be longer than there are names.
 pub fn found(names: &[&str], wanted: &[u64], got: &[u64]) -> Result<(), String> {
     let names = names.iter().chain(std::iter::repeat(&"behind them"));
@@ -76,6 +83,13 @@ mod tests {
                 Some(format!("first difference: {text}"))
             );
         }
+    }
+
+    #[test]
+    fn lists_of_every_length() {
+        assert_eq!(list(&[1, 2], 1), [1]);
+        assert_eq!(list(&[1, 2], 2), [1, 2]);
+        assert_eq!(list(&[1, 2], 4), [1, 2, BEFORE, BEFORE]);
     }
 
     #[test]

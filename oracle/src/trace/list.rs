@@ -62,6 +62,18 @@ pub fn events(list: &[u8]) -> impl Iterator<Item = Event> + '_ {
     })
 }
 
+/// The events at the front of any bytes, up to where there is no whole one.
+pub fn whole_events(list: &[u8]) -> impl Iterator<Item = Event> + '_ {
+    let mut end = 0;
+    while let Some(rest) = list.get(end..).filter(|rest| !rest.is_empty()) {
+        match front(rest) {
+            Front::Whole(size) => end += size,
+            Front::Cut | Front::None => break,
+        }
+    }
+    events(&list[..end])
+}
+
 /// The event of a byte string that is one.
 fn of(bytes: &[u8]) -> Event {
     let word = |place: usize| number(&bytes[place..place + 4]) as u32;

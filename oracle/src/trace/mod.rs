@@ -15,7 +15,7 @@ mod writing;
 
 pub use event::{Answer, Event};
 pub use header::Header;
-pub use list::{events, starts};
+pub use list::{events, starts, whole_events};
 pub use reading::{content, read, Content, Fault, Reading};
 pub use replay::{replay, Replay};
 pub use writing::{write, Writing};

@@ -2,7 +2,7 @@
 
 use crate::{expected, found, library};
 use oracle::delivered::Delivered;
-use oracle::device::Window;
+use oracle::device::{Bench, Window};
 use oracle::difference::{self, BEFORE};
 use oracle::hex::shown;
 use oracle::numbers;
@@ -10,10 +10,21 @@ use oracle::tally::Tally;
 use oracle::tapes::{Lent, List, Tape};
 use oracle::trace::{self, block, Header, Reading, BLOCKS_MOST};
 use oracle::ungranted::Ungranted;
+use std::cmp::Ordering;
 
-#[derive(Default)]
 pub struct Comparison {
     pub tally: Tally,
+    /// How long the list of the numbers found by a replay is.
+    pub found: usize,
+}
+
+impl Default for Comparison {
+    fn default() -> Comparison {
+        Comparison {
+            tally: Tally::default(),
+            found: found::REPLAY.len(),
+        }
+    }
 }
 
 impl Comparison {
@@ -76,7 +87,7 @@ impl Comparison {
             &mut left.output,
             &mut left.answers,
         );
-        let mut got = [BEFORE; found::REPLAY.len()];
+        let mut got = vec![BEFORE; self.found];
         library::replay(
             &tape.bytes,
             &mut lefts.room,
@@ -93,6 +104,7 @@ impl Comparison {
                 let list = &left.room[..wanted.bytes as usize];
                 self.ungranted(list, wanted.bench.window, lent);
                 self.delivered(list, wanted.bench.window, lent);
+                self.counted(&wanted.bench);
                 if lent.answers.len() as u64 > wanted.events {
                     self.tally.met(expected::LONGER_LIST);
                 }
@@ -105,7 +117,8 @@ impl Comparison {
             }
             _ => {}
         }
-        difference::found(&found::REPLAY, &found::replay(&wanted), &got)
+        let numbers = difference::list(&found::replay(&wanted), self.found);
+        difference::found(&found::REPLAY, &numbers, &got)
             .and_then(|()| {
                 difference::buffer("answers", &lent.answers, &left.answers, &lefts.answers)
             })
@@ -126,6 +139,23 @@ impl Comparison {
                     shown(&tape.bytes)
                 )
             })
+    }
+
+    /// What a replay leaves that is counted, and how much of it a list of its numbers shows.
+    fn counted(&mut self, bench: &Bench) {
+        let counters = bench.counters;
+        let (_, time_out) = bench.read(0x48);
+        let all = [time_out, counters.delivered, counters.lost, counters.sent];
+        if self.found >= found::REPLAY.len() {
+            for (name, _) in expected::LEFT.iter().zip(all).filter(|(_, left)| *left > 0) {
+                self.tally.met(*name);
+            }
+        }
+        match self.found.cmp(&found::REPLAY.len()) {
+            Ordering::Less => self.tally.met(expected::SHORTER),
+            Ordering::Greater => self.tally.met(expected::LONGER),
+            Ordering::Equal => {}
+        }
     }
 
     fn answers(&mut self, answers: &[u32]) {

@@ -21,7 +21,21 @@ pub const ROOM_BEFORE_ANSWERS: &str = "replay: 23, and too few answers";
 pub const WRITTEN_AGAIN: &str = "read, and written again";
 pub const READ_BACK: &str = "written, and read back";
 
-const SINGLE_KINDS: [&str; 7] = [
+/// What a replay leaves that is not 0.
+pub const LEFT: [&str; 4] = [
+    "replay leaves: TXTOR",
+    "replay leaves: frames delivered",
+    "replay leaves: frames lost",
+    "replay leaves: frames sent",
+];
+
+/// Lists of numbers found of another length.
+pub const SHORTER: &str = "replay: fewer numbers found than there are";
+pub const LONGER: &str = "replay: more numbers found than there are";
+
+const SINGLE_KINDS: [&str; 9] = [
+    SHORTER,
+    LONGER,
     LONGER_ROOM,
     LONGER_LIST,
     NO_ROOM,
@@ -166,7 +180,7 @@ pub fn expect(tally: &mut Tally) {
     for (given, later) in WRITE_ORDERS {
         tally.expect(order_name(given, later));
     }
-    for kind in SINGLE_KINDS {
+    for kind in SINGLE_KINDS.into_iter().chain(LEFT) {
         tally.expect(kind);
     }
     for name in fault_names() {

@@ -22,7 +22,7 @@ pub fn writing(writing: &Writing) -> [u64; WRITING.len()] {
     [writing.number.into(), writing.blocks]
 }
 
-pub const REPLAY: [&str; 23] = [
+pub const REPLAY: [&str; 28] = [
     "number",
     "block",
     "bytes",
@@ -46,12 +46,18 @@ pub const REPLAY: [&str; 23] = [
     "sending runs",
     "send place",
     "send polling",
+    "TXTOR",
+    "frames delivered",
+    "frames lost",
+    "frames sent",
+    "count of ticks",
 ];
 
 /// Offsets in the order of the list above: those of both, and start and next of each engine.
 const BOTH: [u32; 7] = [0x08, 0x04, 0x400, 0x404, 0x408, 0x40C, 0x410];
 const RECEIVE: [u32; 2] = [0x10, 0x1C];
 const SEND: [u32; 2] = [0x30, 0x3C];
+const TIME_OUT: [u32; 1] = [0x48];
 
 pub fn replay(replay: &Replay) -> Vec<u64> {
     let bench = &replay.bench;
@@ -72,6 +78,15 @@ pub fn replay(replay: &Replay) -> Vec<u64> {
             engine.polling.into(),
         ]);
     }
+    found.extend(registers(bench, &TIME_OUT));
+    let counters = bench.counters;
+    let all = [
+        counters.delivered,
+        counters.lost,
+        counters.sent,
+        bench.ticks,
+    ];
+    found.extend(all.map(u64::from));
     found
 }
 

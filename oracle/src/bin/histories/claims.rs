@@ -2,6 +2,7 @@
 
 use crate::expected;
 use crate::history::History;
+use oracle::device::Counters;
 use oracle::numbers::{DONE, FRAME_ADDRESS};
 use oracle::reason::Reason;
 use oracle::verdict;
@@ -47,7 +48,10 @@ impl History<'_> {
                     delivered.push((self.delivered, *frame, word));
                     self.delivered += 1;
                 }
-                (8, _) => self.tally.met(format!("{kind} lost")),
+                (8, _) => {
+                    self.tally.met(format!("{kind} lost"));
+                    self.lost += 1;
+                }
                 _ => self.tally.met(format!("{kind} turned away")),
             }
             self.marks.push(Mark {
@@ -94,6 +98,31 @@ impl History<'_> {
         }
     }
 
+    /// "Each counter equals the events in the history", from those of the start on: a frame answered
+    /// 0 or 8 is one, whatever ticks and other steps came between.
+    pub fn counts(&mut self) -> Result<(), String> {
+        let lost = self.lost as u32;
+        let delivered = self.delivered as u32;
+        let before = self.start.bench.counters;
+        let wanted = Counters {
+            delivered: before.delivered + delivered,
+            lost: before.lost + lost,
+            sent: before.sent,
+        };
+        let found = self.now.bench.counters;
+        if found != wanted {
+            return Err(format!("the counters are {found:?}, not {wanted:?}"));
+        }
+        self.tally.met(expected::COUNTED);
+        if delivered > 0 {
+            self.tally.met(expected::COUNTED_DELIVERED);
+        }
+        if lost > 0 {
+            self.tally.met(expected::COUNTED_LOST);
+        }
+        Ok(())
+    }
+
     /// "State, window and answers equal those of single receives": the whole history is made again
     /// with single receives in place of its bursts.
     pub fn equals_single_receives(&mut self) -> Result<(), String> {
@@ -106,7 +135,7 @@ impl History<'_> {
         if now != self.now {
             return Err("single receives in place of bursts leave something else".to_string());
         }
-        self.tally.met("history made again by single receives");
+        self.tally.met(expected::HISTORY_MADE_AGAIN);
         Ok(())
     }
 }

@@ -5,7 +5,7 @@ use oracle::reason::Reason;
 use oracle::tally::Tally;
 
 /// Met once at least.
-const ONCE: [&str; 23] = [
+const ONCE: [&str; 22] = [
     "frame delivered",
     "frame lost",
     "frame turned away",
@@ -19,7 +19,6 @@ const ONCE: [&str; 23] = [
     "burst refused: over 64 pairs",
     "burst refused: another answer list",
     "pair outside the store",
-    "history made again by single receives",
     "grant",
     "grant refused in ring order",
     "grant refused at any address",
@@ -55,6 +54,23 @@ fn delivered_names() -> impl Iterator<Item = String> {
         .flat_map(|kind| Reason::ALL.map(|reason| delivered_name(kind, reason)))
 }
 
+/// Ticks, starts with a count that a tick clears, and histories whose counters were held against
+/// what was answered, each of them more than it was at the start.
+const TICKS: [&str; 6] = [
+    "tick",
+    "tick that clears a count",
+    COUNTED,
+    COUNTED_DELIVERED,
+    COUNTED_LOST,
+    HISTORY_MADE_AGAIN,
+];
+const TICKS_LEAST: usize = 500;
+
+pub const COUNTED: &str = "history whose counters are right";
+pub const COUNTED_DELIVERED: &str = "history whose counters are right, frames delivered";
+pub const COUNTED_LOST: &str = "history whose counters are right, frames lost";
+pub const HISTORY_MADE_AGAIN: &str = "history made again by single receives";
+
 /// Starts in each filter mode.
 const START_LEAST: usize = 50;
 
@@ -65,6 +81,7 @@ pub fn start_name(mode: u32) -> String {
 pub fn expect(tally: &mut Tally) {
     ONCE.iter().for_each(|kind| tally.expect(*kind));
     BY_HASH.iter().for_each(|kind| tally.expect(*kind));
+    TICKS.iter().for_each(|kind| tally.expect(*kind));
     delivered_names().for_each(|kind| tally.expect(kind));
     (0..8).for_each(|mode| tally.expect(start_name(mode)));
 }
@@ -73,6 +90,8 @@ pub fn expect(tally: &mut Tally) {
 pub fn least(kind: &str) -> usize {
     if BY_HASH.contains(&kind) {
         BY_HASH_LEAST
+    } else if TICKS.contains(&kind) {
+        TICKS_LEAST
     } else if delivered_names().any(|name| name == kind) {
         DELIVERED_LEAST
     } else if (0..8).any(|mode| start_name(mode) == kind) {

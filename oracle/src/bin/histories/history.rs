@@ -11,6 +11,7 @@ pub struct History<'run> {
     pub now: Start,
     pub grants: usize,
     pub delivered: usize,
+    pub lost: usize,
     pub marks: Vec<Mark>,
     /// The history so far with single receives in place of bursts, and all that was answered.
     pub singly: Vec<Step>,
@@ -25,6 +26,7 @@ impl History<'_> {
             start,
             grants: 0,
             delivered: 0,
+            lost: 0,
             marks: Vec::new(),
             singly: Vec::new(),
             answers: Vec::new(),

@@ -96,6 +96,7 @@ fn single(
     }
     history.other_steps(random, eagerness);
     history.keeps_the_filter()?;
+    history.counts()?;
     history.equals_single_receives()?;
     Ok(history.marks)
 }

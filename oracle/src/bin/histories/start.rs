@@ -1,6 +1,6 @@
 //! Where a history starts.
 
-use oracle::device::{Bench, POLLING, VALID};
+use oracle::device::{Bench, Counters, POLLING, VALID};
 use oracle::random::Random;
 use oracle::scripts;
 use oracle::side::Side;
@@ -24,7 +24,19 @@ impl Start {
             0 => random.between(1, 32),
             _ => random.between(1, 4),
         };
-        let (bench, memory, ring) = scripts::started_ring(random, count);
+        let (mut bench, memory, ring) = scripts::started_ring(random, count);
+        // A time-out and counters of any value: a history starts anywhere, not at reset alone. Sending
+        // has been stopped since the last tick, so that there may be a count.
+        bench.write(0x48, random.pick(&[0, 1, 5, 0xFFFF]));
+        if bench.read(0x48).1 > 0 {
+            bench.ticks = random.below(2) as u32;
+        }
+        let mut counter = || random.below(1_000) as u32;
+        bench.counters = Counters {
+            delivered: counter(),
+            lost: counter(),
+            sent: counter(),
+        };
         let start = Start {
             bench,
             memory,

@@ -11,6 +11,7 @@ pub enum Step {
     Read { offset: u32 },
     Show(u32),
     Ring { count: u32, first: u32 },
+    Tick,
     Firmware { place: usize, bytes: Vec<u8> },
 }
 
@@ -40,6 +41,7 @@ impl Step {
                 [number].into_iter().chain(part).collect()
             }
             Step::Ring { count, first } => vec![bench.ring(memory, *count, *first).into()],
+            Step::Tick => vec![bench.tick(memory)],
             Step::Firmware { place, bytes } => {
                 memory[*place..place + bytes.len()].copy_from_slice(bytes);
                 Vec::new()

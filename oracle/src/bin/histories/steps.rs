@@ -8,9 +8,9 @@ use oracle::random::Random;
 /// The two interrupt registers, the only ones the firmware of a history may write.
 const INTERRUPT: [u32; 2] = [0x04, 0x08];
 
-const OFFSETS: [u32; 16] = [
-    0x00, 0x04, 0x05, 0x08, 0x10, 0x1C, 0x30, 0x3C, 0x400, 0x404, 0x408, 0x40C, 0x40D, 0x410,
-    0x411, 0x414,
+const OFFSETS: [u32; 18] = [
+    0x00, 0x04, 0x05, 0x08, 0x10, 0x1C, 0x30, 0x3C, 0x48, 0x49, 0x400, 0x404, 0x408, 0x40C, 0x40D,
+    0x410, 0x411, 0x414,
 ];
 
 /// Outputs too short for a send, and others.
@@ -18,7 +18,7 @@ const ROOMS: [usize; 4] = [0, 1_517, 1_518, 4_000];
 
 impl History<'_> {
     pub fn other_step(&mut self, random: &mut Random) {
-        match random.below(8) {
+        match random.below(9) {
             0 => self.refused_grant(random),
             1 => self.register_write(random),
             2 => self.call(Step::Read {
@@ -40,6 +40,7 @@ impl History<'_> {
                 let first = self.any_address(random);
                 self.call(Step::Ring { count, first });
             }
+            7 => self.tick(),
             _ => self.firmware_write(random),
         }
         self.tally.met("other step");
@@ -48,6 +49,15 @@ impl History<'_> {
     /// A call of which nothing is claimed.
     fn call(&mut self, step: Step) {
         self.make(step);
+    }
+
+    /// "Ticks join demand 3's lists." Sending does not run, so that each clears the count.
+    fn tick(&mut self) {
+        if self.now.bench.ticks > 0 {
+            self.tally.met("tick that clears a count");
+        }
+        self.call(Step::Tick);
+        self.tally.met("tick");
     }
 
     fn any_address(&self, random: &mut Random) -> u32 {

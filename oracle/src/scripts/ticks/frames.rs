@@ -10,7 +10,7 @@ use crate::side::Side;
 /// A send that clears a count, alone or in a step run of as many as are granted.
 pub fn sent(writer: &mut Writer, chain: &[Place]) {
     counting::up(writer, chain);
-    let run = !writer.random.once_in(3);
+    let run = writer.random.below(5) > 1;
     if run || writer.random.once_in(2) {
         for entry in chain {
             let status = entry.address.wrapping_add(12);

@@ -93,26 +93,26 @@ fn on_both_engines(writer: &mut Writer) {
 
 fn step(writer: &mut Writer, chains: &Chains) {
     let sending = &chains.sending;
-    match writer.random.below(40) {
-        0..=3 => counting::up_to_a_fire(writer, sending),
+    match writer.random.below(47) {
+        0..=3 | 45 | 46 => counting::up_to_a_fire(writer, sending),
         4 | 5 => causes::stopped(writer, sending),
         6 | 7 => causes::returned(writer, sending),
-        8 | 9 => causes::outside(writer, sending),
-        10..=12 | 32..=34 => frames::sent(writer, sending),
-        13..=16 | 35 | 36 => refused::send(writer, sending),
-        17..=19 | 37 | 38 => register::written(writer, sending),
-        20 => register::zero(writer, sending),
-        21 | 39 => refused::tick(writer, sending),
-        22 => counting::at_a_bad_buffer(writer, sending),
-        23..=26 => frames::received(writer, &chains.receiving),
-        27 => frames::on_one_chain(writer, chains),
-        28 => counting::by_other_writes(writer, sending),
-        29 => {
+        8..=10 => causes::outside(writer, sending),
+        11..=18 => frames::sent(writer, sending),
+        19..=24 => refused::send(writer, sending),
+        25..=30 => register::written(writer, sending),
+        31 | 32 => register::zero(writer, sending),
+        33 | 34 => refused::tick(writer, sending),
+        35 => counting::at_a_bad_buffer(writer, sending),
+        36..=39 => frames::received(writer, &chains.receiving),
+        40 => frames::on_one_chain(writer, chains),
+        41 => counting::by_other_writes(writer, sending),
+        42 => {
             writer.register_write();
             writer.say("tick");
             writer.say("counters");
         }
-        30 => writer.observe(),
+        43 => writer.observe(),
         _ => {
             writer.any();
             writer.say("counters");

@@ -14,9 +14,9 @@ fn masked_zero(writer: &mut Writer) -> u32 {
 pub fn written(writer: &mut Writer, chain: &[Place]) {
     counting::up(writer, chain);
     let count = writer.console.bench.ticks;
-    let value = match writer.random.below(10) {
+    let value = match writer.random.below(11) {
         0 | 1 | 8 => 0,
-        2 | 3 => masked_zero(writer),
+        2 | 3 | 9 => masked_zero(writer),
         // What the next tick is above, at once or not.
         4 => count.max(1),
         5 => count.saturating_sub(1).max(1),

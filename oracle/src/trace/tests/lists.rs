@@ -1,7 +1,7 @@
 //! Events and their byte strings.
 
 use crate::random::Random;
-use crate::trace::{events, starts, Event};
+use crate::trace::{events, starts, whole_events, Event};
 
 fn one_of_each() -> Vec<Event> {
     vec![
@@ -96,5 +96,25 @@ fn random_lists_come_back() {
         let bytes = Event::list(&list);
         assert_eq!(events(&bytes).collect::<Vec<_>>(), list);
         assert_eq!(starts(&bytes).map(|starts| starts.len()), Some(list.len()));
+    }
+}
+
+#[test]
+fn whole_events_at_the_front_of_any_bytes() {
+    let write = Event::Write {
+        offset: 0x48,
+        value: 3,
+    };
+    let whole = vec![Event::Send, write, Event::Grant { address: 16 }];
+    let bytes = Event::list(&whole);
+    for behind in [&[][..], &[0], &[1, 2, 3], &[3, 9, 0, 0], &[5, 4, 4]] {
+        let all = [&bytes[..], behind].concat();
+        let found: Vec<Event> = whole_events(&all).collect();
+        assert_eq!(found, whole);
+    }
+    for end in 0..bytes.len() {
+        let found = whole_events(&bytes[..end]).count();
+        let wanted = [1, 10, 15].iter().filter(|size| end >= **size).count();
+        assert_eq!(found, wanted);
     }
 }

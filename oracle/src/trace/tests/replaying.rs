@@ -197,3 +197,28 @@ fn each_send_is_lent_the_whole_output() {
     assert_eq!(answers_of(&events, &mut output), [0; 5]);
     assert_eq!(output[64..128], [0xDD; 64]);
 }
+
+#[test]
+fn a_replay_counts_each_frame_and_send() {
+    let time_out = Event::Write {
+        offset: 0x48,
+        value: 0x0001_0007,
+    };
+    let events = [day(), vec![time_out]].concat();
+    let mut answers = vec![99; events.len()];
+    let replayed = replay(
+        &trace(&events),
+        &mut vec![0; Event::list(&events).len()],
+        &mut memory(),
+        &mut [0; 1_518],
+        &mut answers,
+    );
+    // Of three frames one meets 3, one 8 and one 0; of three sends one meets 3, one 0 and one 8.
+    let counters = replayed.bench.counters;
+    assert_eq!(
+        [counters.delivered, counters.lost, counters.sent],
+        [1, 1, 1]
+    );
+    assert_eq!(replayed.bench.ticks, 0);
+    assert_eq!(replayed.bench.read(0x48), (0, 7));
+}
