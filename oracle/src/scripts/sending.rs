@@ -5,8 +5,9 @@ use super::polling;
 use super::writer::Writer;
 use crate::side::Side;
 
-const COUNTS: [u32; 18] = [
-    0, 1, 13, 14, 15, 59, 60, 61, 62, 64, 100, 1_513, 1_514, 1_515, 1_516, 1_518, 4_094, 4_095,
+const COUNTS: [u32; 22] = [
+    0, 1, 12, 13, 13, 13, 13, 14, 15, 59, 60, 61, 62, 64, 100, 1_513, 1_514, 1_515, 1_516, 1_518,
+    4_094, 4_095,
 ];
 
 pub fn along_a_chain(writer: &mut Writer) {

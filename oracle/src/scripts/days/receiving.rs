@@ -43,9 +43,14 @@ fn step(writer: &mut Writer, ring: &[Place], granted: &mut usize) {
         let place = writer.random.pick(ring).address;
         start(writer, place);
     }
-    match writer.random.below(18) {
+    match writer.random.below(19) {
         0..=3 => {
             writer.frame();
+        }
+        // To another station.
+        18 => {
+            let frame = crate::check::closed(&[0x0A; 60]);
+            writer.say(format!("frame {}", crate::hex::write(&frame)));
         }
         4..=7 => {
             let length = writer.random.pick(&[64, 64, 65, 90, 400, 1_518]);

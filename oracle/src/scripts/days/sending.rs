@@ -24,7 +24,7 @@ fn step(writer: &mut Writer, chain: &[Place]) {
         let first = writer.random.pick(chain).address;
         start(writer, first);
     }
-    match writer.random.below(12) {
+    match writer.random.below(13) {
         0..=5 => {
             let lost = polling::is_8(&send(writer));
             if lost && writer.random.once_in(2) {
@@ -38,6 +38,10 @@ fn step(writer: &mut Writer, chain: &[Place]) {
         }
         8 => grant(writer),
         9 => writer.register_write(),
+        12 => {
+            let value = writer.time_out();
+            writer.say(format!("write 48 {value:x}"));
+        }
         10 => {
             writer.frame();
         }
