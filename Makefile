@@ -24,7 +24,7 @@ help:
 	@echo 'make host        build the C bench host, target/host/host'
 	@echo 'make oracle      build the independent model below $(ORACLE)/'
 	@echo 'make outside     the tests outside the prover alone, on what is built'
-	@echo 'make fuzz        random scripts, traces, days and captures with fresh seeds against the independent model; SECONDS_TO_RUN=60'
+	@echo 'make fuzz        random scripts, traces, days, captures and counters with fresh seeds against the independent model; SECONDS_TO_RUN=60'
 	@echo 'make benchmark   checks and frames a second against a plain C model and an earlier commit (docs/PERFORMANCE.md)'
 	@echo 'make benchmark-traces   its part about traces alone: reading and writing against plain C, replay against direct calls'
 	@echo 'make benchmark-captures   its part about captures alone: export and import against plain C'
@@ -68,19 +68,20 @@ host: library
 	mkdir -p target/host
 	gcc $(WARNINGS) -Iinclude host/host.c target/staticlib/libtockfeather.a -o target/host/host
 
-# The functions on traces and captures for the independent model and the benchmark to call.
+# The functions on traces, captures and counters for the independent model and the benchmark to call.
 trial:
 	@tools/progress rt staticlib trace_trial
 	@tools/progress rt staticlib pcap_trial
+	@tools/progress rt staticlib counter_trial
 
 oracle: library trial
-	cd oracle && cargo build --release --offline --quiet --features library,trace-library,capture-library
+	cd oracle && cargo build --release --offline --quiet --features library,trace-library,capture-library,counter-library
 
 # What is not proved is compared with programs that share no code with the model: two tests at a time, the longest first.
 outside: programs host oracle
 	@$(MAKE) --no-print-directory -j2 --output-sync=target $(OUTSIDE)
 
-OUTSIDE = outside-console outside-trace outside-captures outside-replay outside-model outside-frames outside-histories outside-verdict outside-host outside-report outside-examples outside-capture outside-block outside-file outside-day
+OUTSIDE = outside-console outside-trace outside-captures outside-replay outside-model outside-frames outside-histories outside-verdict outside-host outside-report outside-examples outside-capture outside-counters outside-block outside-file outside-day
 .PHONY: $(OUTSIDE)
 
 outside-console:
@@ -98,6 +99,10 @@ outside-replay:
 outside-capture:
 	@echo '== export and import of captures against the independent model'
 	$(ORACLE)/compare-capture
+
+outside-counters:
+	@echo '== counters that start near their stop against the independent model'
+	$(ORACLE)/compare-counters
 
 outside-captures:
 	@echo '== the programs export_capture and import_capture against the independent model'
@@ -148,6 +153,7 @@ fuzz: programs oracle
 	$(ORACLE)/compare-trace --seconds $(SECONDS_TO_RUN)
 	$(ORACLE)/compare-replay target/bin/record target/bin/replay --seconds $(SECONDS_TO_RUN)
 	$(ORACLE)/compare-capture --seconds $(SECONDS_TO_RUN)
+	$(ORACLE)/compare-counters --seconds $(SECONDS_TO_RUN)
 	$(ORACLE)/compare-captures target/bin/export_capture target/bin/import_capture --seconds $(SECONDS_TO_RUN)
 
 clean:
