@@ -6,7 +6,7 @@ use mathlib.Core.List.{List}
 use native.Mathlib.Omega.{arith}
 use borrow.Author.Tests.{lt-ltb, le-ltb, eq-eqb, ne-eqb}
 use lib.Dec.{eqb, ltb}
-use Rattle.rules.proofs.Choices.{by-test, said, said-yes, said-no}
+use Rattle.rules.proofs.Choices.{if-yes, if-no, by-test, said, said-yes, said-no}
 use Rattle.window.specs.Window.{lent, inWindow}
 use Rattle.packet_status.specs.PacketStatus.{granted}
 use Rattle.registers.specs.declared.Registers.{Registers}
@@ -34,11 +34,11 @@ module _ (base window : ℕ) (r : Registers) (m : List ℕ) where
 
 pub count-goes-up : (r : Registers) (n : ℕ) → n < r .txtor → leaves 0 r (n + 1) ≡ counted r n
 unfolding counted
-count-goes-up r n h = rw (le-ltb (r .txtor) (n + 1) (omega arith))
+count-goes-up r n h = let k : n + 1 ≤ r .txtor = omega arith in search (if-no, le-ltb, k)
 
 pub count-fires : (r : Registers) (n : ℕ) → r .txtor ≤ n → leaves 0 (raised r txTo) 0 ≡ counted r n
 unfolding counted
-count-fires r n h = rw (lt-ltb (r .txtor) (n + 1) (omega arith))
+count-fires r n h = let k : r .txtor < n + 1 = omega arith in search (if-yes, lt-ltb, k)
 
 -- ---- a tick
 
