@@ -1,5 +1,6 @@
 -- Every public call on the bench, as one type, and what each gives, by its own definition. The claims about all calls (crates
--- inputs, outputs, changes, refusals, history and marks) are about this function. Making a new bench is no call on one. Assumes nothing.
+-- inputs, outputs, changes, counting, numbers, refusals, polling, history and marks) are about this function. Making a new bench is
+-- no call on one. Assumes nothing.
 use Prim.Native.Nat.{ℕ}
 use mathlib.Core.List.{List, [], _∷_}
 use Rattle.enet.specs.declared.Enet.{Enet}

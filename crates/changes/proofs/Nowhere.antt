@@ -20,7 +20,7 @@ use Rattle.outputs.proofs.Outputs.{run-front}
 use Rattle.changes.proofs.Devices.{write-parts, receive-parts, send-parts, run-parts, tick-parts}
 use Rattle.burst.proofs.Laws.{length-burst}
 use Rattle.changes.proofs.Bursts.{burst-kept, burst-refused, burst-parts, burst-status}
-use Rattle.changes.proofs.Statuses.{receive-status, send-status, run-status, tick-status}
+use Rattle.changes.proofs.Statuses.{receive-status, send-status, run-status, tick-status, write-status}
 
 -- ---- a refusal changes no byte
 
@@ -91,4 +91,5 @@ changes-nowhere-else = record {
   sendStatus = λ b output. send-status (b .device) (b .memory) output;
   runStatus = run-status;
   tickStatus = tick-status;
+  writeStatus = write-status;
 }

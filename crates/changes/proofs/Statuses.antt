@@ -1,4 +1,4 @@
--- Which status bits receiving, sending and a tick set. Assumes nothing.
+-- Which status bits receiving, sending and a tick set, and that a register write sets none. Assumes nothing.
 use Prim.Native.Nat.{ℕ, zero, suc}
 use mathlib.Core.Path.{refl}
 use mathlib.Core.List.{List}
@@ -7,13 +7,19 @@ use Rattle.rules.proofs.Choices.{by-test}
 use Rattle.descriptor.specs.Descriptor.{nextEnabled}
 use Rattle.enet.specs.declared.Enet.{Enet}
 use Rattle.registers.specs.declared.Registers.{Registers}
+use Rattle.registers.specs.declared.Register.{Register}
+use Rattle.registers.specs.declared.Register.the-variants.{Ier, Isr, RxStart, RxNext, TxStart, TxNext, TxTimeout, Mcr, Mah, Mal, Mcha, Mcla, Unmodelled}
+use Rattle.registers.specs.Access.{registerAt}
+use Rattle.writable.specs.Writable.{kept}
+use Rattle.register_write.specs.Write.{written}
 use Rattle.registers.specs.Registers.{txCurrDone, txDone, rxCurrDone, rxDone, packetLost, txTo}
 use Rattle.outcomes.specs.Outcomes.{rxAdvanced, txAdvanced}
 use Rattle.enet.specs.Send.{send}
 use Rattle.enet.specs.Run.{Running, sends, run}
-use Rattle.calls.specs.Calls.{Bench, receiveCall, stepRun, tickCall}
-use Rattle.changes.specs.Parts.{Raises, unchanged, thenSet, receiveBits, sendBits, tickBits, StatusRaised}
+use Rattle.calls.specs.Calls.{Bench, registerWrite, receiveCall, stepRun, tickCall, call}
+use Rattle.changes.specs.Parts.{Raises, unchanged, thenSet, Clears, uncleared, clearedBy, receiveBits, sendBits, tickBits, StatusRaised}
 use Rattle.enet.proofs.Ways.{by-receive, by-send, by-tick}
+use Rattle.changes.proofs.Branches.{by-write}
 
 pub both : {masks : List ℕ} {i j k : ℕ} → Raises masks i j → Raises masks j k → Raises masks i k
 both p unchanged = p
@@ -56,3 +62,24 @@ pub tick-status : (b : Bench) → StatusRaised tickBits b tickCall
 tick-status b =
     by-tick (λ a. Raises tickBits (b .device .registers .isr) (a .device .registers .isr)) (b .device) (b .memory)
     unchanged unchanged (thenSet txTo refl unchanged) unchanged
+
+written-clears : (a : Register) (r : Registers) (v : ℕ) → Clears (r .isr) (written r a v .isr)
+written-clears Ier r v = uncleared
+written-clears Isr r v = clearedBy (kept Isr v)
+written-clears RxStart r v = uncleared
+written-clears RxNext r v = uncleared
+written-clears TxStart r v = uncleared
+written-clears TxNext r v = uncleared
+written-clears TxTimeout r v = uncleared
+written-clears Mcr r v = uncleared
+written-clears Mah r v = uncleared
+written-clears Mal r v = uncleared
+written-clears Mcha r v = uncleared
+written-clears Mcla r v = uncleared
+written-clears Unmodelled r v = uncleared
+
+pub write-status : (b : Bench) (offset value : ℕ)
+    → Clears (b .device .registers .isr) (call b (registerWrite offset value) .bench .device .registers .isr)
+write-status b offset value =
+    by-write (λ a. Clears (b .device .registers .isr) (a .device .registers .isr)) (b .device) value uncleared uncleared offset
+    (written-clears (registerAt offset) (b .device .registers) value)

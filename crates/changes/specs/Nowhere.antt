@@ -6,10 +6,10 @@ use mathlib.Core.List.{List}
 use lib.ListN.{length}
 use Rattle.enet.specs.declared.Enet.{Enet}
 use Rattle.enet.specs.Access.{read}
-use Rattle.calls.specs.Calls.{Bench, Call, receiveCall, burstCall, sendCall, stepRun, tickCall, call}
+use Rattle.calls.specs.Calls.{Bench, Call, registerWrite, receiveCall, burstCall, sendCall, stepRun, tickCall, call}
 use Rattle.outputs.specs.Outputs.{FrontOnly, FrameSize}
 use Rattle.changes.specs.Regions.{regions, SameOutside}
-use Rattle.changes.specs.Parts.{PartsKept, receiveBits, sendBits, tickBits, StatusRaised}
+use Rattle.changes.specs.Parts.{PartsKept, Clears, receiveBits, sendBits, tickBits, StatusRaised}
 
 -- what a call leaves as it was
 pub record Kept (b : Bench) (c : Call) : Type 0 where
@@ -34,3 +34,5 @@ pub record NowhereElse : Type 0 where
   pub sendStatus : (b : Bench) (output : List ℕ) → StatusRaised sendBits b (sendCall output)
   pub runStatus : (b : Bench) (output : List ℕ) (allowance : ℕ) → StatusRaised sendBits b (stepRun output allowance)
   pub tickStatus : (b : Bench) → StatusRaised tickBits b tickCall
+  pub writeStatus : (b : Bench) (offset value : ℕ)
+      → Clears (b .device .registers .isr) (call b (registerWrite offset value) .bench .device .registers .isr)

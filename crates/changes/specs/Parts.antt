@@ -17,6 +17,7 @@ use Rattle.counters.specs.declared.Counters.{Counters}
 use Rattle.counters.specs.Counters as counters
 use Rattle.enet.specs.Device.{withRegisters, withCounters, withRx, withTx, withTicks}
 use Rattle.registers.specs.Access.{registerAt}
+use Rattle.register_write.specs.Write.{cleared}
 use Rattle.calls.specs.Calls.{Bench, Call, looks, registerWrite, grantCall, receiveCall, burstCall, sendCall, stepRun, tickCall, call}
 use Rattle.changes.specs.OneOf.{oneOf}
 
@@ -69,7 +70,7 @@ pub record SendOnly (d e : Enet) : Type 0 where
   pub others : e ≡ withCounters (withTx (statusOf d e) (e .registers .tx)) (sendCounters (d .counters) (e .counters))
   pub engine : SameRegisters (d .registers .tx) (e .registers .tx)
 
--- the other calls change nothing
+-- looks and grants change nothing
 abbrev pub PartsKept : Call → Enet → Enet → Type 0
 PartsKept (looks look) d e = e ≡ d
 PartsKept (registerWrite address value) d e = e ≡ registerOf (registerAt address) d e
@@ -98,6 +99,11 @@ sendBits = txCurrDone ∷ txDone ∷ []
 
 abbrev pub tickBits : List ℕ
 tickBits = txTo ∷ []
+
+-- a register write raises none: the status stays, or bits of it are cleared
+pub data Clears (isr : ℕ) : ℕ → Type 0 where
+  uncleared : Clears isr isr
+  clearedBy : (v : ℕ) → Clears isr (cleared isr v)
 
 abbrev pub StatusRaised : List ℕ → Bench → Call → Type 0
 StatusRaised masks b c = Raises masks (b .device .registers .isr) (call b c .bench .device .registers .isr)

@@ -107,7 +107,7 @@ run c m allowance out =
     answers (withDevice c (r .device)) (behindLent c m (r .memory))
     (ran (characters "run") (r .number) (r .steps) (r .count) (take (r .count) (r .output)))
 
--- `tick`: `tick N`. "a tick of the send time-out"
+-- `tick`: `tick N`. "a tick for the send time-out, with memory lent"
 unfoldable pub tick : Console → List ℕ → Answer
 tick c m =
     let a = tickOf (c .device) (lent c m) in
@@ -147,7 +147,8 @@ unfoldable pub stateSays : Enet → List ℕ
 stateSays d =
     let r = d .registers in engines (characters "state") (r .rx .running) (r .rx .place) (r .tx .running) (r .tx .place)
 
--- `counters`: `counters DELIVERED LOST SENT COUNT`. "the frames delivered, lost and sent since `new`, and the count of ticks"
+-- `counters`: `counters DELIVERED LOST SENT COUNT`. "the frames delivered, lost and sent since the bench was made, each
+-- at most 4294967295, and the tick count"
 unfoldable pub countersSay : Enet → List ℕ
 countersSay d =
     let c = d .counters in listed (characters "counters") (c .delivered) (c .lost ∷ c .sent ∷ c .ticks ∷ [])

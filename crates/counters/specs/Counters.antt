@@ -1,5 +1,5 @@
 -- 02, Wish 9: "Add frames delivered, lost and sent to the device's state, each stopping at 4,294,967,295", and the count of its
--- ticks. They are no registers: no offset reads or writes them. Assumes nothing.
+-- ticks. They are no registers: no offset reads them, and of writes only that of 0 to the time-out clears the count. Assumes nothing.
 use Prim.Native.Nat.{ℕ, _+_}
 use lib.Dec.{eqb, ltb}
 use Rattle.rules.specs.Choice.{if_then_else_}

@@ -1,6 +1,6 @@
 -- What calls add to the counters of frames. Assumes nothing.
 use Prim.Native.Nat.{ℕ, _+_}
-use mathlib.Core.Path.{_≡_, refl, sym, ap, _∙_}
+use mathlib.Core.Path.{_≡_, sym, ap, _∙_}
 use Rattle.counters.specs.declared.Counters.{Counters}
 use Rattle.counting.proofs.More.{more, more-both}
 

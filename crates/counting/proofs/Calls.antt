@@ -1,15 +1,13 @@
 -- What each call adds to the counters of frames. Assumes nothing.
 use Prim.Native.Nat.{ℕ, zero, suc, _+_}
-use mathlib.Core.Path.{_≡_, refl, sym, ap, subst, _∙_}
-use mathlib.Core.Bool.{Bool, true, false}
+use mathlib.Core.Path.{_≡_, refl, sym, ap, subst}
+use mathlib.Core.Bool.{true}
 use mathlib.Core.List.{List, [], _∷_}
 use native.Mathlib.Nat.{zero-add}
 use lib.Dec.{eqb, ltb}
 use borrow.Author.Tests.{ltb-false}
-use Rattle.rules.specs.Choice.{if_then_else_}
 use Rattle.rules.proofs.Choices.{by-bool}
 use Rattle.counters.specs.declared.Counters.{Counters}
-use Rattle.enet.specs.declared.Enet.{Enet}
 use Rattle.enet.specs.Run.{run}
 use Rattle.enet.proofs.Ways.{by-grant, by-receive, by-send, by-tick}
 use Rattle.burst.specs.Taken.{taken, framesInside}
@@ -19,7 +17,7 @@ use Rattle.inputs.proofs.Receives.{single-receives}
 use Rattle.outputs.specs.Runs.{Stand, begins, single, further, after}
 use Rattle.outputs.proofs.Runs.{single-sends}
 use Rattle.changes.proofs.Branches.{by-write}
-use Rattle.counting.specs.Events.{times, deliveredIn, lostIn, sendAnswers, sendsOf, sentIn}
+use Rattle.counting.specs.Events.{times, deliveredIn, lostIn, sendAnswers, sentIn}
 use Rattle.counting.proofs.More.{more}
 use Rattle.counting.proofs.Adds.{Adds, adds-none, adds-both}
 

@@ -1,13 +1,12 @@
 -- Events counted one behind the other, and where they stop. Assumes nothing.
 use Prim.Native.Nat.{ℕ, zero, suc, _+_, _≤_, _<_}
-use mathlib.Core.Path.{_≡_, refl, sym, ap, _∙_}
-use mathlib.Core.Bool.{true, false}
-use native.Mathlib.Nat.{add-suc, zero-add}
+use mathlib.Core.Path.{_≡_, sym, ap, _∙_}
+use native.Mathlib.Nat.{zero-add}
 use native.Mathlib.Omega.{arith}
 use native.Mathlib.Decide.{decLt}
-use lib.Dec.{ltb}
-use borrow.Author.Tests.{lt-ltb, le-ltb, ltb-true, ltb-false}
+use borrow.Author.Tests.{lt-ltb, le-ltb}
 use Rattle.counters.specs.Counters.{stop, oneMore}
+use Rattle.counters.proofs.Laws.{below-stop, at-stop}
 use Rattle.counting.specs.Counted.{upTo}
 
 -- k events more
@@ -37,14 +36,6 @@ up-same n h = by (decLt n stop)
     by (yes l) = sym (below-up n l)
     by (no l) = let e : n ≡ stop = omega arith in e ∙ sym (above-up n (omega arith))
 
-one-below : (n : ℕ) → n < stop → oneMore n ≡ n + 1
-unfolding oneMore
-one-below n h = rw (lt-ltb n stop h)
-
-one-above : (n : ℕ) → stop ≤ n → oneMore n ≡ stop
-unfolding oneMore
-one-above n h = rw (le-ltb n stop h)
-
 -- events counted from n on
 pub more-up : (k n : ℕ) → n ≤ stop → more k n ≡ upTo (n + k)
 unfolding more
@@ -54,9 +45,9 @@ more-up (suc k) n h = by (decLt n stop) (more-up k)
     by : Dec (n < stop) → ((i : ℕ) → i ≤ stop → more k i ≡ upTo (i + k)) → more k (oneMore n) ≡ upTo (n + suc k)
     by (yes l) rest =
         let e : n + 1 + k ≡ n + suc k = omega arith in
-        ap (more k) (one-below n l) ∙ rest (n + 1) (omega arith) ∙ ap upTo e
+        ap (more k) (sym (below-stop n l)) ∙ rest (n + 1) (omega arith) ∙ ap upTo e
     by (no l) rest =
-        ap (more k) (one-above n (omega arith))
+        ap (more k) (sym (at-stop n (omega arith)))
         ∙ rest stop (omega arith)
         ∙ above-up (stop + k) (omega arith)
         ∙ sym (above-up (n + suc k) (omega arith))

@@ -1,6 +1,6 @@
 -- The counters equal the events of every history since reset. Assumes nothing.
 use Prim.Native.Nat.{ℕ}
-use mathlib.Core.Path.{_≡_, refl, sym, ap, subst, _∙_}
+use mathlib.Core.Path.{_≡_, refl, ap, _∙_}
 use mathlib.Core.List.{List, [], _∷_}
 use native.Mathlib.Omega.{arith}
 use Rattle.counters.specs.declared.Counters.{Counters}
@@ -23,7 +23,7 @@ calls-add [] d = adds-none _ _ refl refl refl
 calls-add (l ∷ ls) d = adds-both (call-adds (meets d l) (l .call)) (calls-add ls (next d l))
 
 -- "The reset state has all four at 0."
-new-counters : (base window : ℕ) → new base window .device .counters ≡ reset
+pub new-counters : (base window : ℕ) → new base window .device .counters ≡ reset
 new-counters base window = by-new (λ a. a .device .counters ≡ reset) base window refl refl
 
 module _ (counter : Counters → ℕ) (events : Bench → Call → ℕ)

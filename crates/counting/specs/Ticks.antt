@@ -7,7 +7,6 @@ use mathlib.Core.List.{List}
 use Rattle.window.specs.Window.{lent}
 use Rattle.registers.specs.Registers.{txTo}
 use Rattle.ticking.specs.Tick.{stalled}
-use Rattle.enet.specs.declared.Enet.{Enet}
 use Rattle.enet.specs.Device.{new, raised, withTicks}
 use Rattle.calls.specs.Calls.{Bench, tickCall, call}
 use Rattle.counting.specs.Events.{Lent, after}
@@ -25,7 +24,8 @@ pub record Stalls (b : Bench) : Type 0 where
   pub stands : stalled (b .device .base) (b .device .window) (b .device .registers) (b .memory) ≡ true
   pub fresh : b .device .counters .ticks ≡ 0
 
--- "A tick that counts above the value sets TX_TO and starts it again at 0": a value v is met by v ticks, and passed by the next
+-- "A tick that counts above the value sets TX_TO and starts it again at 0": v ticks in a row meet a value v, and the (v+1)th passes
+-- it and fires
 pub record FiresBehind : Type 0 where
   pub counts : (b : Bench) → Stalls b → (k : ℕ) → k ≤ b .device .registers .txtor
       → ticks k b ≡ record { device = withTicks (b .device) k; memory = b .memory }

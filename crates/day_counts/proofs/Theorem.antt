@@ -1,24 +1,20 @@
 -- A replayed day counts each frame. Assumes nothing.
-use Prim.Native.Nat.{ℕ, _+_}
+use Prim.Native.Nat.{ℕ}
 use mathlib.Core.Path.{_≡_, refl, sym, ap, subst, _∙_}
-use mathlib.Core.Bool.{true, false}
 use mathlib.Core.List.{List, [], _∷_}
-use native.Mathlib.Omega.{arith}
 use lib.Dec.{eqb}
-use lib.ListN.{length}
+use lib.ListN.{length, take}
 use Rattle.rules.specs.Choice.{if_then_else_}
 use Rattle.rules.proofs.Choices.{by-bool}
 use Rattle.counters.specs.declared.Counters.{Counters}
-use Rattle.counters.specs.Counters.{reset}
 use Rattle.event.specs.Event.{Event, registerWrite, grant, frame, send}
 use Rattle.event.specs.Walk.{walk}
 use Rattle.stream.specs.Stream.{eventBytes}
 use Rattle.enet.specs.declared.Enet.{Enet}
-use Rattle.enet.specs.Device.{new}
 use Rattle.trace.specs.Reading.{look}
 use Rattle.calls.specs.Calls.{Bench, call}
-use Rattle.changes.proofs.Branches.{by-new}
 use Rattle.playback.specs.Playing.{callOf, act, play}
+use Rattle.replaying.specs.Replay.{replay}
 use Rattle.day_steps.specs.Replayed.{benchFor, direct}
 use Rattle.day_steps.proofs.ReplayedProof.{direct-calls}
 use Rattle.counting.specs.Events.{times, deliveredIn, lostIn, sentIn}
@@ -26,6 +22,7 @@ use Rattle.counting.specs.Counted.{upTo}
 use Rattle.counting.proofs.More.{more, more-since}
 use Rattle.counting.proofs.Adds.{Adds, adds-none, adds-both}
 use Rattle.counting.proofs.Calls.{call-adds}
+use Rattle.counting.proofs.Theorem.{new-counters}
 use Rattle.day_counts.specs.DayCounts.{isFrame, isSend, answering, DayCounted, ReplaysCount}
 
 -- one answer, counted where it is n
@@ -86,21 +83,27 @@ play-adds (e ∷ es) b output = adds-both (event-adds b output e) (play-adds es 
 
 -- ---- a replay
 
-new-counters : (base window : ℕ) → new base window .device .counters ≡ reset
-new-counters base window = by-new (λ a. a .device .counters ≡ reset) base window refl refl
-
 since : (k n : ℕ) → n ≡ 0 → more k n ≡ upTo k
 since k n e = ap (more k) e ∙ more-since k
 
-pub replays-count : ReplaysCount
-replays-count t room m o a done =
-    let d = direct t (length room) m o in
-    let f = look t (length room) in
-    let state = ap (λ (x : Enet). x .counters) (direct-calls t room m o a done .state) in
-    let adds = play-adds (walk (eventBytes t) .events) (benchFor t (length room) m) o in
+-- the events as direct calls
+direct-counts : (t : List ℕ) (room : ℕ) (m o : List ℕ)
+    → let d = direct t room m o in DayCounted (walk (eventBytes t) .events) (d .answers) (d .bench .device .counters)
+direct-counts t room m o =
+    let f = look t room in
+    let adds = play-adds (walk (eventBytes t) .events) (benchFor t room m) o in
     let began = new-counters (f .base) (f .window) in
     record {
-      delivered = ap (λ (c : Counters). c .delivered) state ∙ adds .delivered′ ∙ since _ _ (ap (λ (c : Counters). c .delivered) began);
-      lost = ap (λ (c : Counters). c .lost) state ∙ adds .lost′ ∙ since _ _ (ap (λ (c : Counters). c .lost) began);
-      sent = ap (λ (c : Counters). c .sent) state ∙ adds .sent′ ∙ since _ _ (ap (λ (c : Counters). c .sent) began);
+      delivered = adds .delivered′ ∙ since _ _ (ap (λ (c : Counters). c .delivered) began);
+      lost = adds .lost′ ∙ since _ _ (ap (λ (c : Counters). c .lost) began);
+      sent = adds .sent′ ∙ since _ _ (ap (λ (c : Counters). c .sent) began);
     }
+
+pub replays-count : ReplaysCount
+replays-count t room m o a done =
+    let same = direct-calls t room m o a done in
+    let d = direct t (length room) m o in
+    let r = replay t room m o a in
+    let es = walk (eventBytes t) .events in
+    subst (λ (e : Enet). DayCounted es (take (r .replayed .events) (r .answers)) (e .counters)) (sym (same .state))
+    (subst (λ l. DayCounted es l (d .bench .device .counters)) (sym (same .answers)) (direct-counts t (length room) m o))

@@ -4,14 +4,13 @@ use Prim.Native.Nat.{ℕ, _+_}
 use mathlib.Core.Path.{_≡_}
 use mathlib.Core.List.{List, [], _∷_}
 use lib.Dec.{eqb}
-use lib.ListN.{length}
+use lib.ListN.{take}
 use Rattle.rules.specs.Choice.{if_then_else_}
 use Rattle.counters.specs.declared.Counters.{Counters}
 use Rattle.event.specs.Event.{Event, registerWrite, grant, frame, send}
 use Rattle.event.specs.Walk.{walk}
 use Rattle.stream.specs.Stream.{eventBytes}
 use Rattle.replaying.specs.Replay.{replay}
-use Rattle.day_steps.specs.Replayed.{direct}
 use Rattle.counting.specs.Counted.{upTo}
 
 -- an event that is a frame, and one that is a single send
@@ -39,10 +38,10 @@ pub record DayCounted (es : List Event) (answers : List ℕ) (c : Counters) : Ty
   pub lost : c .lost ≡ upTo (answering isFrame 8 es answers)
   pub sent : c .sent ≡ upTo (answering isSend 0 es answers)
 
--- every replay that is not refused
+-- every replay that is not refused, by the answers that it gave
 abbrev pub ReplaysCount : Type 0
 ReplaysCount =
     (t room memory output answers : List ℕ)
     → let r = replay t room memory output answers in
     r .replayed .number ≡ 0
-    → DayCounted (walk (eventBytes t) .events) (direct t (length room) memory output .answers) (r .replayed .device .counters)
+    → DayCounted (walk (eventBytes t) .events) (take (r .replayed .events) (r .answers)) (r .replayed .device .counters)

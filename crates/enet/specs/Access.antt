@@ -6,10 +6,10 @@ use Rattle.registers.specs.declared.Change.{Change}
 use Rattle.registers.specs.Registers as registers
 use Rattle.registers.specs.Access as access
 use Rattle.register_write.specs.Write as register-write
+use Rattle.ticking.specs.Tick.{afterWrite}
 use Rattle.enet.specs.declared.Enet.{Enet}
 use Rattle.enet.specs.declared.Answered.{Answered}
 use Rattle.enet.specs.declared.Value.{Value}
-use Rattle.ticking.specs.Tick.{afterWrite}
 use Rattle.enet.specs.Device.{withRegisters, withTicks}
 
 abbrev pub ofFound : Enet → Found → Value

@@ -5,8 +5,8 @@ use Rattle.granting.specs.Granting as granting
 use Rattle.granting.specs.Granting.{Granted}
 use Rattle.receiving.specs.Receive as receiving
 use Rattle.receiving.specs.Receive.{Received}
-use Rattle.enet.specs.declared.Enet.{Enet}
 use Rattle.counters.specs.Counters.{afterReceive}
+use Rattle.enet.specs.declared.Enet.{Enet}
 use Rattle.enet.specs.Device.{after, Outcome, leaves}
 
 -- a grant leaves the device as it is

@@ -1,6 +1,6 @@
 -- 02, Wish 9: the tick, of the device over lent memory. It reads the memory and writes none. Assumes nothing.
-use mathlib.Core.List.{List}
 use Prim.Native.Nat.{ℕ}
+use mathlib.Core.List.{List}
 use Rattle.ticking.specs.declared.Ticked.{Ticked}
 use Rattle.ticking.specs.Tick as plain
 use Rattle.enet.specs.declared.Enet.{Enet}

@@ -1,3 +1,4 @@
+-- `acting::acted` meets its contract. Assumes nothing.
 use borrow.Author.Needs.{needs}
 use Rattle.acting.proofs.Laws.{new-called, lend-called, write-called, grant-called, frame-called, burst-called, send-called, run-called, tick-called, poke-called}
 use Rattle.acting.proofs.acted.Statement.{statement}

@@ -1,3 +1,4 @@
+-- `asking::said` meets its contract. Assumes nothing.
 use borrow.Author.Needs.{needs}
 use Rattle.asking.proofs.Laws.{read-said, line-said, show-said, ring-said, peek-said, check-said, state-said, counters-said, error-said}
 use Rattle.asking.proofs.said.Statement.{statement}

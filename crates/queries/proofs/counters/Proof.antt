@@ -1,3 +1,4 @@
+-- `queries::counters` meets its contract. Assumes nothing.
 use borrow.Author.Needs.{needs}
 use Rattle.queries.proofs.Laws.{counters-say}
 use Rattle.queries.proofs.counters.Statement.{statement}

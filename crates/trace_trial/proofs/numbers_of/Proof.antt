@@ -31,4 +31,10 @@ numbers-of-spec =
     (λ c. search needs)
     (λ c. search needs)
     (λ c. search needs)
-    (λ c. rw (c .before .before .before .before .before .before .before .before .before .before .before .before .flag .ensures, c .before .before .before .before .before .before .before .before .before .before .flag2 .ensures, c .before .before .before .before .before .before .before .flag3 .ensures, c .before .before .before .before .before .flag4 .ensures)))
+    (λ c.
+    rw (
+      c .before .before .before .before .before .before .before .before .before .before .before .before .flag .ensures,
+      c .before .before .before .before .before .before .before .before .before .before .flag2 .ensures,
+      c .before .before .before .before .before .before .before .flag3 .ensures,
+      c .before .before .before .before .before .flag4 .ensures,
+    )))
