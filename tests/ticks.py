@@ -70,6 +70,7 @@ def frame(number, *under, data=FRAME):
 
 
 CLEARED, STAYS = 'the tick count is cleared, was {}'.format, 'the tick count stays {}'.format
+AT_ONCE = 'the tick count stays {}: the next tick that counts sets TX_TO'.format
 NOT_GRANTED = 'the descriptor at 00000800 is not granted'
 NEW = 'new 0 4096', 'new 0', ''
 DESCRIPTOR = 0x0e, 0x900, 0, 0x10000
@@ -99,9 +100,9 @@ DAYS = {
     # 16 bits; the most lets no tick of a short day fire
     'the register': [
         *PLACED, write(0x48, 0xffffffff), read(0x48, 0xffff), STARTS, tick(1), tick(2),
-        write(0x48, 0x10002, STAYS(2)), read(0x48, 2), counters(0, 0, 0, 2), fires('3rd', 2), tick(1), tick(2),
+        write(0x48, 0x10002, AT_ONCE(2)), read(0x48, 2), counters(0, 0, 0, 2), fires('3rd', 2), tick(1), tick(2),
         # a smaller value: the count stands above it until the next tick
-        write(0x48, 1, STAYS(2)), counters(0, 0, 0, 2), fires('3rd', 1, 12), tick(1),
+        write(0x48, 1, AT_ONCE(2)), counters(0, 0, 0, 2), fires('3rd', 1, 12), tick(1),
         # 0, by its 16 bits, clears it at once
         write(0x48, 0xffff0000, CLEARED(1)), counters(0, 0, 0, 0), not_counted('TXTOR is 0'),
         write(0x48, 2), counters(0, 0, 0, 0), tick(1), tick(2), write(0x48, 0, CLEARED(2)), counters(0, 0, 0, 0),

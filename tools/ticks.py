@@ -151,7 +151,10 @@ class Ticks:
         self.value = value & TIME_OUT_BITS
         if not self.value:
             return self.cleared()
-        return [f'the tick count stays {self.count}'] if self.count else []
+        if not self.count:
+            return []
+        behind = ': the next tick that counts sets TX_TO' if self.count >= self.value else ''
+        return [f'the tick count stays {self.count}{behind}']
 
     def follow_read(self, at, offset, number, value):
         if offset != TIME_OUT:
