@@ -100,9 +100,9 @@ DAYS = {
     # 16 bits; the most lets no tick of a short day fire
     'the register': [
         *PLACED, write(0x48, 0xffffffff), read(0x48, 0xffff), STARTS, tick(1), tick(2),
-        write(0x48, 0x10002, AT_ONCE(2)), read(0x48, 2), counters(0, 0, 0, 2), fires('3rd', 2), tick(1), tick(2),
+        write(0x48, 9, STAYS(2)), write(0x48, 0x10002, AT_ONCE(2)), read(0x48, 2), counters(0, 0, 0, 2), fires('3rd', 2), tick(1), tick(2),
         # a smaller value: the count stands above it until the next tick
-        write(0x48, 1, AT_ONCE(2)), counters(0, 0, 0, 2), fires('3rd', 1, 12), tick(1),
+        write(0x48, 1, AT_ONCE(2)), counters(0, 0, 0, 2), fires('3rd', 1, 13), tick(1),
         # 0, by its 16 bits, clears it at once
         write(0x48, 0xffff0000, CLEARED(1)), counters(0, 0, 0, 0), not_counted('TXTOR is 0'),
         write(0x48, 2), counters(0, 0, 0, 0), tick(1), tick(2), write(0x48, 0, CLEARED(2)), counters(0, 0, 0, 0),
