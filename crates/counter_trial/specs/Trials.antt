@@ -17,8 +17,8 @@ abbrev pub started : ℕ → ℕ → Counters → Enet
 started base window c = withCounters (new base window .device) c
 
 -- the events of a list of bytes on it, as a replay plays them
-unfoldable pub playedOn : ℕ → ℕ → Counters → List ℕ → List ℕ → List ℕ → List ℕ → Played
-playedOn base window c memory output events answers = playInto answers (benchOf (started base window c) memory) output events
+unfoldable pub playOn : ℕ → ℕ → Counters → List ℕ → List ℕ → List ℕ → List ℕ → Played
+playOn base window c memory output events answers = playInto answers (benchOf (started base window c) memory) output events
 
 -- the counters and the interrupt status of a device
 abbrev pub deviceNumbers : Enet → List ℕ
@@ -50,14 +50,14 @@ pub record RunTold : Type 0 where
 abbrev pub runTold : List ℕ → List ℕ → List ℕ → RunTold
 runTold memory output numbers = record { memory = memory; output = output; numbers = numbers }
 
-unfoldable pub ranOn : Enet → List ℕ → List ℕ → ℕ → RunTold
-ranOn d memory output allowance =
+unfoldable pub runThenTick : Enet → List ℕ → List ℕ → ℕ → RunTold
+runThenTick d memory output allowance =
     let r = run d memory output allowance in
     runTold (r .memory) (r .output) (runNumbers r (tick (r .device) (r .memory)))
 
-unfoldable pub triedRun : Played → ℕ → List ℕ → RunLeft
-triedRun p allowance found =
-    let r = ranOn (p .bench .device) (p .bench .memory) (p .output) allowance in
+unfoldable pub runOn : Played → ℕ → List ℕ → RunLeft
+runOn p allowance found =
+    let r = runThenTick (p .bench .device) (p .bench .memory) (p .output) allowance in
     runLeft (r .memory) (r .output) (p .answers) (store found 0 (r .numbers))
 
 -- ---- or a burst
@@ -77,7 +77,7 @@ burstLeft memory output answers list found =
 abbrev pub burstNumbers : Bursting → List ℕ
 burstNumbers b = b .number ∷ deviceNumbers (b .device)
 
-unfoldable pub triedBurst : Played → List ℕ → List ℕ → List ℕ → List ℕ → List ℕ → BurstLeft
-triedBurst p frames starts lengths list found =
+unfoldable pub burstOn : Played → List ℕ → List ℕ → List ℕ → List ℕ → List ℕ → BurstLeft
+burstOn p frames starts lengths list found =
     let b = burstOf (p .bench .device) (p .bench .memory) frames starts lengths list in
     burstLeft (b .memory) (p .output) (p .answers) (b .answers) (store found 0 (burstNumbers b))

@@ -7,7 +7,7 @@ ghost use Rattle.counters.specs.Counters.{made};
 ghost use Rattle.enet.specs.Run.{running};
 ghost use Rattle.pair.specs.Turn.{bursting};
 ghost use Rattle.playback.specs.Playing.{played};
-ghost use Rattle.counter_trial.specs.Trials.{started, playedOn, runNumbers, runTold, ranOn, runLeft, triedRun, burstNumbers, burstLeft, triedBurst};
+ghost use Rattle.counter_trial.specs.Trials.{started, playOn, runNumbers, runTold, runThenTick, runLeft, runOn, burstNumbers, burstLeft, burstOn};
 use counters::Counters;
 use enet::Answered;
 use enet::Enet;
@@ -33,7 +33,7 @@ fn played(
     events: &[u8],
     answers: &mut [u32],
 ) -> Enet
-    ensures { λ d. ⌜ played d (now (memory .exit)) (now (output .exit)) (now (answers .exit)) ≡ playedOn base window counters (now (memory .entry)) (now (output .entry)) (now (events .entry)) (now (answers .entry)) ⌝ }
+    ensures { λ d. ⌜ played d (now (memory .exit)) (now (output .exit)) (now (answers .exit)) ≡ playOn base window counters (now (memory .entry)) (now (output .entry)) (now (events .entry)) (now (answers .entry)) ⌝ }
 {
     let device = started(base, window, counters);
     playback::play(device, memory, output, events, answers)
@@ -78,7 +78,7 @@ fn burst_numbers(a: Answered) -> [u64; 6]
 
 // A step run, and a tick behind it.
 fn ran(device: Enet, memory: &mut [u8], output: &mut [u8], allowance: u32) -> [u64; 9]
-    ensures { λ l. ⌜ runTold (now (memory .exit)) (now (output .exit)) l ≡ ranOn device (now (memory .entry)) (now (output .entry)) allowance ⌝ }
+    ensures { λ l. ⌜ runTold (now (memory .exit)) (now (output .exit)) l ≡ runThenTick device (now (memory .entry)) (now (output .entry)) allowance ⌝ }
 {
     let r = device.run(memory, output, allowance);
     let next = r.device;
@@ -102,7 +102,7 @@ pub extern "C" fn counter_trial_run(
     allowance: u32,
     found: &mut [u64],
 )
-    ensures { λ _. ⌜ runLeft (now (memory .exit)) (now (output .exit)) (now (answers .exit)) (now (found .exit)) ≡ triedRun (playedOn base window (made delivered lost sent count) (now (memory .entry)) (now (output .entry)) (now (events .entry)) (now (answers .entry))) allowance (now (found .entry)) ⌝ }
+    ensures { λ _. ⌜ runLeft (now (memory .exit)) (now (output .exit)) (now (answers .exit)) (now (found .exit)) ≡ runOn (playOn base window (made delivered lost sent count) (now (memory .entry)) (now (output .entry)) (now (events .entry)) (now (answers .entry))) allowance (now (found .entry)) ⌝ }
 {
     let counters = Counters {
         delivered,
@@ -133,7 +133,7 @@ pub extern "C" fn counter_trial_burst(
     list: &mut [u32],
     found: &mut [u64],
 )
-    ensures { λ _. ⌜ burstLeft (now (memory .exit)) (now (output .exit)) (now (answers .exit)) (now (list .exit)) (now (found .exit)) ≡ triedBurst (playedOn base window (made delivered lost sent count) (now (memory .entry)) (now (output .entry)) (now (events .entry)) (now (answers .entry))) (now (store .entry)) (now (starts .entry)) (now (lengths .entry)) (now (list .entry)) (now (found .entry)) ⌝ }
+    ensures { λ _. ⌜ burstLeft (now (memory .exit)) (now (output .exit)) (now (answers .exit)) (now (list .exit)) (now (found .exit)) ≡ burstOn (playOn base window (made delivered lost sent count) (now (memory .entry)) (now (output .entry)) (now (events .entry)) (now (answers .entry))) (now (store .entry)) (now (starts .entry)) (now (lengths .entry)) (now (list .entry)) (now (found .entry)) ⌝ }
 {
     let counters = Counters {
         delivered,
