@@ -3,8 +3,8 @@ ghost use Rattle.std.specs.Prelude.{◌≡◌};
 ghost use Rattle.words.specs.Words.{characters};
 ghost use Rattle.text.specs.Text.{written, put};
 ghost use Rattle.replies.specs.Replies.{said, numbered};
-ghost use Rattle.enet.specs.Device.{new as newBench};
-ghost use Rattle.commands.specs.Answers.{withBench, given, tells};
+ghost use Rattle.enet.specs.Device.{new as new_bench};
+ghost use Rattle.commands.specs.Answers.{with_bench, given, tells};
 ghost use Rattle.acting.specs.Acts.{acts};
 
 use commands::{Console, Told};
@@ -22,8 +22,8 @@ fn lend(mut console: Console, n: u32, text: &mut [u8], at: usize) -> Told
 
 // A new bench, whose window is lent.
 fn new(mut console: Console, base: u32, length: u32, text: &mut [u8], at: usize) -> Told
-    ensures console_value { result.console ≡ withBench console (newBench base length) }
-    ensures text_after { written result.end text.new ≡ put text.old at (numbered (characters "new") (newBench base length).number) }
+    ensures console_value { result.console ≡ with_bench console (new_bench base length) }
+    ensures text_after { written result.end text.new ≡ put text.old at (numbered (characters "new") (new_bench base length).number) }
 {
     let a = Enet::new(base, length);
     let device = a.device;

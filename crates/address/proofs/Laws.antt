@@ -9,34 +9,34 @@ use Rattle.rules.proofs.Choices.{by_bool, either}
 use Rattle.memory.proofs.Stores.{Apart}
 use Rattle.address.specs.Address.{aligned, place_of, polls, apart}
 
-pub aligned-is : (a : ℕ) → eqb (a % 4) 0 ≡ aligned a
+pub aligned_is : (a : ℕ) → eqb (a % 4) 0 ≡ aligned a
 unfolding aligned
-aligned-is a = refl
+aligned_is a = refl
 
 pub place_is : (w : ℕ) → w - w % 4 ≡ place_of w
 unfolding place_of
 place_is w = refl
 
-pub polls-is : (w : ℕ) → eqb (w / 1 % 2) 1 ≡ polls w
+pub polls_is : (w : ℕ) → eqb (w / 1 % 2) 1 ≡ polls w
 unfolding polls
-polls-is w = refl
+polls_is w = refl
 
 module _ (a n b k : ℕ) where
-  pub before-apart : a + n ≤ b → true ≡ apart a n b k
+  pub before_apart : a + n ≤ b → true ≡ apart a n b k
   unfolding apart
-  before-apart h = rw (le-leb (a + n) b h)
+  before_apart h = rw (le-leb (a + n) b h)
 
-  pub else-behind : b < a + n → leb (b + k) a ≡ apart a n b k
+  pub else_behind : b < a + n → leb (b + k) a ≡ apart a n b k
   unfolding apart
-  else-behind h = rw (lt-leb (a + n) b h)
+  else_behind h = rw (lt-leb (a + n) b h)
 
   -- ---- the test, and the fact
 
-  pub apart-is : apart a n b k ≡ true → Apart a n b k
+  pub apart_is : apart a n b k ≡ true → Apart a n b k
   unfolding apart
-  apart-is e = ⊎_map (leb-true (a + n) b) (leb-true (b + k) a) (either (leb (a + n) b) (leb (b + k) a) e)
+  apart_is e = ⊎_map (leb-true (a + n) b) (leb-true (b + k) a) (either (leb (a + n) b) (leb (b + k) a) e)
 
-  pub apart-yes : Apart a n b k → apart a n b k ≡ true
+  pub apart_yes : Apart a n b k → apart a n b k ≡ true
   unfolding apart
-  apart-yes (inl h) = rw (le-leb (a + n) b h)
-  apart-yes (inr h) = by_bool (leb (a + n) b) (λ e. rw e) (λ e. rw (e, le-leb (b + k) a h))
+  apart_yes (inl h) = rw (le-leb (a + n) b h)
+  apart_yes (inr h) = by_bool (leb (a + n) b) (λ e. rw e) (λ e. rw (e, le-leb (b + k) a h))

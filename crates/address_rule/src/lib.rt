@@ -1,8 +1,8 @@
 // The address rule: why a frame is taken, by its destination and the filter registers.
 ghost use Rattle.std.specs.Prelude.{◌≡◌};
 ghost use Rattle.fcs.specs.Bytes.{same};
-ghost use Rattle.reason.specs.Reason.{reasonNumber};
-ghost use Rattle.address_rule.specs.AddressRule.{groupRule, addressRule};
+ghost use Rattle.reason.specs.Reason.{reason_number};
+ghost use Rattle.address_rule.specs.AddressRule.{group_rule, address_rule};
 
 use filter::Filter;
 use reason::Reason;
@@ -26,7 +26,7 @@ fn same(a: &[u8], b: &[u8]) -> bool
 
 // The group branch of the address rule: by the hash registers where the mode says so.
 fn group(filter: Filter, address: &[u8]) -> Reason
-    ensures { reasonNumber result ≡ reasonNumber (groupRule filter address.now) }
+    ensures { reason_number result ≡ reason_number (group_rule filter address.now) }
 {
     let mode = filter::filter_mode(filter.mcr);
     if mode == Filter::MULTICAST_HASH {
@@ -44,7 +44,7 @@ fn group(filter: Filter, address: &[u8]) -> Reason
 // The address rule: the first that applies takes the frame, or turns it away. Under six bytes there is
 // no destination, and the frame is not taken.
 pub fn apply(filter: Filter, frame: &[u8]) -> Reason
-    ensures { reasonNumber result ≡ addressRule filter frame.now }
+    ensures { reason_number result ≡ address_rule filter frame.now }
 {
     if frame.len() < 6 {
         return Reason::NotTaken;

@@ -14,19 +14,19 @@ pub record Least (r a b : ℕ) : Type 0 where
   pub second : r ≤ b
   pub which : (r ≡ a) ⊎ (r ≡ b)
 
-pub clear-turn : (m : List ℕ) (at n i : ℕ) → i < n
+pub clear_turn : (m : List ℕ) (at n i : ℕ) → i < n
     → store (set m (at + i) 0) (at + (i + 1)) (replicate (n - (i + 1)) 0) ≡ store m (at + i) (replicate (n - i) 0)
 unfolding store
-clear-turn m at n i h =
+clear_turn m at n i h =
     let e : n - i ≡ suc (n - (i + 1)) = omega arith in
     let f : at + (i + 1) ≡ suc (at + i) = omega arith in
     rw (e, f)
 
 -- no zero is left, or none has room
-pub clear-end : (m o : List ℕ) (at n i left : ℕ) → length o ≡ length m → left ≤ i → (left ≡ n) ⊎ (left ≡ length m - at)
+pub clear_end : (m o : List ℕ) (at n i left : ℕ) → length o ≡ length m → left ≤ i → (left ≡ n) ⊎ (left ≡ length m - at)
     → store o (at + i) (replicate (n - i) 0) ≡ store m at (replicate n 0) → o ≡ store m at (replicate n 0)
 unfolding store
-clear-end m o at n i left l h (inl e) s =
+clear_end m o at n i left l h (inl e) s =
     let f : n - i ≡ 0 = omega arith in
     rw f at s
-clear-end m o at n i left l h (inr e) s = store_out o (at + i) (replicate (n - i) 0) (omega arith) ∙ s
+clear_end m o at n i left l h (inr e) s = store_out o (at + i) (replicate (n - i) 0) (omega arith) ∙ s

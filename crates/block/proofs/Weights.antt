@@ -7,19 +7,19 @@ use native.Mathlib.Nat.{mul-le-mul, mul-add, add-mul, add-zero}
 use native.Mathlib.Omega.{arith}
 use lib.ListN.{length, get_or, take, drop, drop_of_length-le}
 use lib.Seq.{length-take-le, take-add}
-use Rattle.block.specs.Fields.{weighted, checkOf}
-use Rattle.block.proofs.Parts.{next-byte}
+use Rattle.block.specs.Fields.{weighted, check_of}
+use Rattle.block.proofs.Parts.{next_byte}
 
 -- ---- Lists behind one another
 
-weighted-append : (p : ℕ) (a b : List ℕ) → weighted p (a ++ b) ≡ weighted p a + weighted (p + length a) b
+weighted_append : (p : ℕ) (a b : List ℕ) → weighted p (a ++ b) ≡ weighted p a + weighted (p + length a) b
 unfolding weighted
-weighted-append p [] b =
+weighted_append p [] b =
     let e : p + 0 ≡ p = omega arith in
     rw e (omega arith)
-weighted-append p (x ∷ a) b =
+weighted_append p (x ∷ a) b =
     let e : p + suc (length a) ≡ p + 1 + length a = omega arith in
-    rw (e, weighted-append (p + 1) a b) (omega arith)
+    rw (e, weighted_append (p + 1) a b) (omega arith)
 
 -- ---- The loop over the four quarters
 
@@ -41,20 +41,20 @@ one_byte : (s : List ℕ) (i q : ℕ) → i < length s → weighted (i + q) (dro
 unfolding weighted
 one_byte s i q h =
     let e : i + q + 1 ≡ i + 1 + q = omega arith in
-    rw (next-byte s i h, e)
+    rw (next_byte s i h, e)
 
 module _ (a b c d : List ℕ) (la : length a ≡ 127) (lb : length b ≡ 127) (lc : length c ≡ 127) (ld : length d ≡ 127) where
-  pub weigh-turn : (i w sum all r : ℕ) → i < 127 → w ≡ i → sum + left a b c d i ≡ all
+  pub weigh_turn : (i w sum all r : ℕ) → i < 127 → w ≡ i → sum + left a b c d i ≡ all
       → r ≡ get_or a i 0 * (w + 1) + get_or b i 0 * (w + 1 + 127) + get_or c i 0 * (w + 1 + 254) + get_or d i 0 * (w + 1 + 381)
       → sum + r + left a b c d (i + 1) ≡ all
-  weigh-turn i w sum all r h v e q =
+  weigh_turn i w sum all r h v e q =
       let t = rw v at q in
       let p : weighted i (drop i a) ≡ get_or a i 0 * (i + 1) + weighted (i + 1) (drop (i + 1) a) = rw (add-zero i, add-zero (i + 1)) at (one_byte a i 0 (omega arith)) in
       omega (arith, one_byte b i 127 (omega arith), one_byte c i 254 (omega arith), one_byte d i 381 (omega arith))
 
-  pub weigh-end : (i sum all : ℕ) → 127 ≤ i → sum + left a b c d i ≡ all → sum ≡ all
+  pub weigh_end : (i sum all : ℕ) → 127 ≤ i → sum + left a b c d i ≡ all → sum ≡ all
   unfolding weighted
-  weigh-end i sum all h e =
+  weigh_end i sum all h e =
       let g = rw (drop_of_length-le a {i = i} (omega arith), drop_of_length-le b {i = i} (omega arith), drop_of_length-le c {i = i} (omega arith), drop_of_length-le d {i = i} (omega arith)) at e in
       omega arith
 
@@ -62,7 +62,7 @@ module _ (a b c d : List ℕ) (la : length a ≡ 127) (lb : length b ≡ 127) (l
 
 -- the first n + m: the first n, and m behind them
 in_two : (p n m : ℕ) (s : List ℕ) → n ≤ length s → weighted p (take (n + m) s) ≡ weighted p (take n s) + weighted (p + n) (take m (drop n s))
-in_two p n m s h = rw (take-add n m s, weighted-append p (take n s) (take m (drop n s)), length-take-le n s h)
+in_two p n m s h = rw (take-add n m s, weighted_append p (take n s) (take m (drop n s)), length-take-le n s h)
 
 quarters : (s : List ℕ) → 508 ≤ length s
     → weighted 0 (take 508 s)
@@ -73,7 +73,7 @@ quarters s h =
     let e₃ = in_two 0 127 127 s (omega arith) in
     omega arith
 
-pub check-is : (s a b c d : List ℕ) (r : ℕ) → 508 ≤ length s → a ≡ take 127 (drop 0 s) → b ≡ take 127 (drop 127 s) → c ≡ take 127 (drop 254 s)
-    → d ≡ take 127 (drop 381 s) → r ≡ weighted 0 a + weighted 127 b + weighted 254 c + weighted 381 d → r % 65521 ≡ checkOf s
-unfolding checkOf
-check-is s a b c d r h ea eb ec ed er = rw (er, ea, eb, ec, ed, quarters s h)
+pub check_is : (s a b c d : List ℕ) (r : ℕ) → 508 ≤ length s → a ≡ take 127 (drop 0 s) → b ≡ take 127 (drop 127 s) → c ≡ take 127 (drop 254 s)
+    → d ≡ take 127 (drop 381 s) → r ≡ weighted 0 a + weighted 127 b + weighted 254 c + weighted 381 d → r % 65521 ≡ check_of s
+unfolding check_of
+check_is s a b c d r h ea eb ec ed er = rw (er, ea, eb, ec, ed, quarters s h)

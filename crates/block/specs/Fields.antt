@@ -9,26 +9,26 @@ abbrev pub half : List ℕ → ℕ → ℕ
 half b at = get_or b at 0 + 256 * get_or b (at + 1) 0
 
 -- "2 bytes of block number"
-unfoldable pub blockNumber : List ℕ → ℕ
-blockNumber b = half b 0
+unfoldable pub block_number : List ℕ → ℕ
+block_number b = half b 0
 
 -- "2 bytes of used length"
-unfoldable pub usedLength : List ℕ → ℕ
-usedLength b = half b 2
+unfoldable pub used_length : List ℕ → ℕ
+used_length b = half b 2
 
 -- "504 bytes of event data", the used ones and the others
 unfoldable pub data_of : List ℕ → List ℕ
 data_of b = take 504 (drop 4 b)
 
-unfoldable pub usedData : List ℕ → List ℕ
-usedData b = take (usedLength b) (data_of b)
+unfoldable pub used_data : List ℕ → List ℕ
+used_data b = take (used_length b) (data_of b)
 
-unfoldable pub unusedData : List ℕ → List ℕ
-unusedData b = drop (usedLength b) (data_of b)
+unfoldable pub unused_data : List ℕ → List ℕ
+unused_data b = drop (used_length b) (data_of b)
 
 -- "4 bytes of check": the whole number of 32 bits
-unfoldable pub storedCheck : List ℕ → ℕ
-storedCheck b = word b 508
+unfoldable pub stored_check : List ℕ → ℕ
+stored_check b = word b 508
 
 -- "byte times (position plus one)", summed over a list whose first byte stands at a position
 unfoldable pub weighted : ℕ → List ℕ → ℕ
@@ -36,5 +36,5 @@ weighted position [] = 0
 weighted position (byte ∷ bytes) = byte * (position + 1) + weighted (position + 1) bytes
 
 -- "The check is the sum over bytes 0 to 507 of byte times (position plus one), modulo 65,521."
-unfoldable pub checkOf : List ℕ → ℕ
-checkOf b = weighted 0 (take 508 b) % 65521
+unfoldable pub check_of : List ℕ → ℕ
+check_of b = weighted 0 (take 508 b) % 65521

@@ -4,8 +4,8 @@ pub mod made;
 mod sums;
 
 ghost use Rattle.std.specs.Prelude.{◌+◌, ◌*◌, ◌≡◌};
-ghost use Rattle.block.specs.Fields.{blockNumber, usedLength};
-ghost use Rattle.block.specs.Faults.{usedFault, allZero, blockFault};
+ghost use Rattle.block.specs.Fields.{block_number, used_length};
+ghost use Rattle.block.specs.Faults.{used_fault, all_zero, block_fault};
 
 // The number of two bytes, the lowest first.
 fn half_of(low: u8, high: u8) -> usize
@@ -16,21 +16,21 @@ fn half_of(low: u8, high: u8) -> usize
 
 // The block number.
 fn number(block: &[u8]) -> usize
-    ensures { result ≡ blockNumber block.now }
+    ensures { result ≡ block_number block.now }
 {
     half_of(memory::byte(block, 0), memory::byte(block, 1))
 }
 
 // The used length.
 pub fn used(block: &[u8]) -> usize
-    ensures { result ≡ usedLength block.now }
+    ensures { result ≡ used_length block.now }
 {
     half_of(memory::byte(block, 2), memory::byte(block, 3))
 }
 
 // A used length that a block, the last one or another, cannot have.
 fn used_fault(last: bool, used: usize) -> bool
-    ensures { result ≡ usedFault last used }
+    ensures { result ≡ used_fault last used }
 {
     if used == 0 {
         return true;
@@ -46,7 +46,7 @@ fn used_fault(last: bool, used: usize) -> bool
 
 // All of these bytes are zero.
 fn all_zero(bytes: &[u8]) -> bool
-    ensures { result ≡ allZero bytes.now }
+    ensures { result ≡ all_zero bytes.now }
 {
     let mut i = 0;
     while i < bytes.len() {
@@ -60,7 +60,7 @@ fn all_zero(bytes: &[u8]) -> bool
 
 // The first fault of the block that should have this number, or 0.
 pub fn fault(block: &[u8], k: usize, last: bool) -> u32
-    ensures { result ≡ blockFault last k block.now }
+    ensures { result ≡ block_fault last k block.now }
 {
     if block.len() != 512 {
         return answer::BLOCK_LENGTH;

@@ -1,13 +1,13 @@
 // A block made of its number and its used data.
 ghost use Rattle.std.specs.Prelude.{◌<◌, ◌≡◌, ◌++◌, length, replicate};
 ghost use Rattle.memory.specs.Memory.{store};
-ghost use Rattle.block.specs.Made.{halfBytes, frontOf, block_of};
+ghost use Rattle.block.specs.Made.{half_bytes, front_of, block_of};
 
 use crate::sums::check;
 
 // The two numbers at a block's front, lowest bytes first.
 fn head(number: usize, used: usize) -> [u8; 4]
-    ensures { result ≡ halfBytes number ++ halfBytes used }
+    ensures { result ≡ half_bytes number ++ half_bytes used }
 {
     [
         (number % 256) as u8,
@@ -38,7 +38,7 @@ fn clear(room: &mut [u8], at: usize, n: usize)
 // Puts bytes 0 to 507 of the block of this number and this used data into the room, from an offset on.
 fn put_front(room: &mut [u8], at: usize, number: usize, used: &[u8])
     requires { at < length room.old }
-    ensures { room.new ≡ store room.old at (frontOf number used.now) }
+    ensures { room.new ≡ store room.old at (front_of number used.now) }
 {
     let head = head(number, used.len());
     let kept = memory::part(used, 0, 504);

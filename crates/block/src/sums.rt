@@ -1,7 +1,7 @@
 // The check of a block. Bytes 0 to 507 are weighed in four quarters of 127: bytes at the same place of their quarters have one
 // weight there, and 127 more for each quarter before. So four bytes need one product.
 ghost use Rattle.std.specs.Prelude.{◌+◌, ◌*◌, ◌≤◌, ◌≡◌, length};
-ghost use Rattle.block.specs.Fields.{weighted, checkOf};
+ghost use Rattle.block.specs.Fields.{weighted, check_of};
 
 // Four bytes of one place, by their weight in the first quarter. Their sums fit 16 bits, so that a compiler adds eight at once.
 fn four(a: u8, b: u8, c: u8, d: u8, weight: u8) -> u32
@@ -35,7 +35,7 @@ fn weigh(a: &[u8], b: &[u8], c: &[u8], d: &[u8]) -> u32
 // The check that bytes 0 to 507 ask for.
 pub(crate) fn check(block: &[u8]) -> u32
     requires { 508 ≤ length block.now }
-    ensures { result ≡ checkOf block.now }
+    ensures { result ≡ check_of block.now }
 {
     let sum = weigh(
         memory::part(block, 0, 127),

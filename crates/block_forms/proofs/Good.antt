@@ -6,29 +6,29 @@ use mathlib.Core.Logic.{◌⊎◌, inl, inr}
 use native.Mathlib.Omega.{arith}
 use borrow.Author.Tests.{eq-eqb, le-ltb}
 use lib.ListN.{length}
-use Rattle.block.specs.Fields.{blockNumber, storedCheck, checkOf}
-use Rattle.block.specs.Faults.{usedFault, blockFault}
+use Rattle.block.specs.Fields.{block_number, stored_check, check_of}
+use Rattle.block.specs.Faults.{used_fault, block_fault}
 use Rattle.block.specs.Made.{block_of}
-use Rattle.block.proofs.Ways.{used-last, used-other}
+use Rattle.block.proofs.Ways.{used_last, used_other}
 use Rattle.block_forms.specs.Forms.{MadeGood}
-use Rattle.block_forms.proofs.Lists.{zeros-zero}
-use Rattle.block.proofs.Blocks.{length-block}
-use Rattle.block_forms.proofs.Back.{number-back, used-back, check-back, unused-back}
+use Rattle.block_forms.proofs.Lists.{zeros_zero}
+use Rattle.block.proofs.Blocks.{length_block}
+use Rattle.block_forms.proofs.Back.{number_back, used_back, check_back, unused_back}
 
-used-good : (last : Bool) (u : ℕ) → 1 ≤ u → u ≤ 504 → (last ≡ true) ⊎ (u ≡ 504) → usedFault last u ≡ false
-used-good last u some room (inl e) = sym (used-last last u (λ q. omega arith) room e)
-used-good true u some room (inr e) = sym (used-last true u (λ q. omega arith) room refl)
-used-good false u some room (inr e) = sym (used-other false u (λ q. omega arith) room refl) ∙ le-ltb u 504 (omega arith)
+used_good : (last : Bool) (u : ℕ) → 1 ≤ u → u ≤ 504 → (last ≡ true) ⊎ (u ≡ 504) → used_fault last u ≡ false
+used_good last u some room (inl e) = sym (used_last last u (λ q. omega arith) room e)
+used_good true u some room (inr e) = sym (used_last true u (λ q. omega arith) room refl)
+used_good false u some room (inr e) = sym (used_other false u (λ q. omega arith) room refl) ∙ le-ltb u 504 (omega arith)
 
-pub made-good : MadeGood
-unfolding blockFault
-made-good last k d number some room full =
+pub made_good : MadeGood
+unfolding block_fault
+made_good last k d number some room full =
     rw (
-      eq-eqb (length (block_of k d)) 512 (length-block k d),
-      eq-eqb (blockNumber (block_of k d)) k (number-back k d number),
-      eq-eqb (storedCheck (block_of k d)) (checkOf (block_of k d)) (check-back k d),
-      used-back k d (omega arith),
-      used-good last (length d) some room full,
-      unused-back k d room,
-      zeros-zero (504 - length d),
+      eq-eqb (length (block_of k d)) 512 (length_block k d),
+      eq-eqb (block_number (block_of k d)) k (number_back k d number),
+      eq-eqb (stored_check (block_of k d)) (check_of (block_of k d)) (check_back k d),
+      used_back k d (omega arith),
+      used_good last (length d) some room full,
+      unused_back k d room,
+      zeros_zero (504 - length d),
     )

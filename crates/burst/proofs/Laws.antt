@@ -12,19 +12,19 @@ use Rattle.enet.specs.declared.Enet.{Enet}
 use Rattle.enet.specs.declared.Answered.{Answered}
 use Rattle.pair.specs.declared.Pair.{Pair}
 use Rattle.pair.specs.Turn.{bursting}
-use Rattle.burst.specs.Burst.{refuses, refused, burst, pairsOf, uneven, burstOf}
-use Rattle.burst.specs.Turns.{turnsOf}
-use Rattle.burst.proofs.Turns.{length-receives, turns-receive}
+use Rattle.burst.specs.Burst.{refuses, refused, burst, pairs_of, uneven, burst_of}
+use Rattle.burst.specs.Turns.{turns_of}
+use Rattle.burst.proofs.Turns.{length_receives, turns_receive}
 
 -- ---- whether it is refused
 
-pub refuses-many : (n k : ℕ) → 64 < n → true ≡ refuses n k
+pub refuses_many : (n k : ℕ) → 64 < n → true ≡ refuses n k
 unfolding refuses
-refuses-many n k h = rw (lt-ltb 64 n h)
+refuses_many n k h = rw (lt-ltb 64 n h)
 
-pub refuses-other : (n k : ℕ) → n ≤ 64 → not (eqb k n) ≡ refuses n k
+pub refuses_other : (n k : ℕ) → n ≤ 64 → not (eqb k n) ≡ refuses n k
 unfolding refuses
-refuses-other n k h = rw (le-ltb 64 n h)
+refuses_other n k h = rw (le-ltb 64 n h)
 
 accepts : (n k : ℕ) → refuses n k ≡ false → k ≡ n
 unfolding refuses
@@ -32,53 +32,53 @@ accepts n k e = by_bool (ltb 64 n) (λ f. absurd (false≢true (sym e ∙ rw f))
 
 -- ---- the ways out
 
-length_pairs : (ss ns : List ℕ) → length ns ≡ length ss → length (pairsOf ss ns) ≡ length ss
-unfolding pairsOf
+length_pairs : (ss ns : List ℕ) → length ns ≡ length ss → length (pairs_of ss ns) ≡ length ss
+unfolding pairs_of
 length_pairs [] ns h = refl
 length_pairs (s ∷ ss) [] h = absurd (omega arith)
 length_pairs (s ∷ ss) (n ∷ ns) h = ap suc (length_pairs ss ns (omega arith))
 
 module _ (d : Enet) (m store ss ns a : List ℕ) where
-  pub burst-uneven : (length ns ≡ length ss → ⊥) → refused d m a ≡ burstOf d m store ss ns a
-  unfolding burstOf uneven
-  burst-uneven h = rw (ne_eqb (length ns) (length ss) h)
+  pub burst_uneven : (length ns ≡ length ss → ⊥) → refused d m a ≡ burst_of d m store ss ns a
+  unfolding burst_of uneven
+  burst_uneven h = rw (ne_eqb (length ns) (length ss) h)
 
-  pub burst-refused : (r : Bool) → length ns ≡ length ss → r ≡ refuses (length ss) (length a) → r ≡ true
-      → refused d m a ≡ burstOf d m store ss ns a
-  unfolding burstOf uneven burst
-  burst-refused r h e t = rw (eq-eqb (length ns) (length ss) h, length_pairs ss ns h, ← e, t)
+  pub burst_refused : (r : Bool) → length ns ≡ length ss → r ≡ refuses (length ss) (length a) → r ≡ true
+      → refused d m a ≡ burst_of d m store ss ns a
+  unfolding burst_of uneven burst
+  burst_refused r h e t = rw (eq-eqb (length ns) (length ss) h, length_pairs ss ns h, ← e, t)
 
-  pub burst-done : (r : Bool) (x : Answered) (m' a' : List ℕ) → length ns ≡ length ss → r ≡ refuses (length ss) (length a) → r ≡ false
-      → bursting x m' a' ≡ turnsOf (bursting (record { number = 0; device = d }) m a) store 0 (pairsOf ss ns)
-      → bursting x m' a' ≡ burstOf d m store ss ns a
-  unfolding burstOf uneven burst
-  burst-done r x m' a' h e t q =
+  pub burst_done : (r : Bool) (x : Answered) (m' a' : List ℕ) → length ns ≡ length ss → r ≡ refuses (length ss) (length a) → r ≡ false
+      → bursting x m' a' ≡ turns_of (bursting (record { number = 0; device = d }) m a) store 0 (pairs_of ss ns)
+      → bursting x m' a' ≡ burst_of d m store ss ns a
+  unfolding burst_of uneven burst
+  burst_done r x m' a' h e t q =
       let k = length_pairs ss ns h in
       let l = accepts (length ss) (length a) (sym e ∙ t) in
-      rw (eq-eqb (length ns) (length ss) h, k, ← e, t) (q ∙ turns-receive d m store (pairsOf ss ns) a (omega arith))
+      rw (eq-eqb (length ns) (length ss) h, k, ← e, t) (q ∙ turns_receive d m store (pairs_of ss ns) a (omega arith))
 
   -- the answer list keeps its length, refused or not
-  by-lists : (t u : Bool) → eqb (length ns) (length ss) ≡ t → refuses (length ss) (length a) ≡ u
-      → length (burstOf d m store ss ns a).answers ≡ length a
-  unfolding burstOf uneven burst
-  by-lists false u e f = rw e
-  by-lists true true e f = rw (e, length_pairs ss ns (eqb-true (length ns) (length ss) e), f)
-  by-lists true false e f =
+  by_lists : (t u : Bool) → eqb (length ns) (length ss) ≡ t → refuses (length ss) (length a) ≡ u
+      → length (burst_of d m store ss ns a).answers ≡ length a
+  unfolding burst_of uneven burst
+  by_lists false u e f = rw e
+  by_lists true true e f = rw (e, length_pairs ss ns (eqb-true (length ns) (length ss) e), f)
+  by_lists true false e f =
       let k = length_pairs ss ns (eqb-true (length ns) (length ss) e) in
-      rw (e, k, f) (length-receives (pairsOf ss ns) d m store ∙ k ∙ sym (accepts (length ss) (length a) f))
+      rw (e, k, f) (length_receives (pairs_of ss ns) d m store ∙ k ∙ sym (accepts (length ss) (length a) f))
 
-  pub length-burst : length (burstOf d m store ss ns a).answers ≡ length a
-  length-burst = by-lists (eqb (length ns) (length ss)) (refuses (length ss) (length a)) refl refl
+  pub length_burst : length (burst_of d m store ss ns a).answers ≡ length a
+  length_burst = by_lists (eqb (length ns) (length ss)) (refuses (length ss) (length a)) refl refl
 
 -- ---- a pair list is its starts and its lengths, so that both forms of the call give the same
 
-pairs-apart : (ps : List Pair) → pairsOf (map (λ p. p.start) ps) (map (λ p. p.length) ps) ≡ ps
-unfolding pairsOf
-pairs-apart [] = refl
-pairs-apart (p ∷ ps) = ap (λ (qs : List Pair). p ∷ qs) (pairs-apart ps)
+pairs_apart : (ps : List Pair) → pairs_of (map (λ p. p.start) ps) (map (λ p. p.length) ps) ≡ ps
+unfolding pairs_of
+pairs_apart [] = refl
+pairs_apart (p ∷ ps) = ap (λ (qs : List Pair). p ∷ qs) (pairs_apart ps)
 
-pub burst-apart : (d : Enet) (m store : List ℕ) (ps : List Pair) (a : List ℕ)
-    → burstOf d m store (map (λ p. p.start) ps) (map (λ p. p.length) ps) a ≡ burst d m store ps a
-unfolding burstOf uneven
-burst-apart d m store ps a =
-    rw (length-map ps (λ (p : Pair). p.length), length-map ps (λ (p : Pair). p.start), eq-eqb (length ps) (length ps) refl, pairs-apart ps)
+pub burst_apart : (d : Enet) (m store : List ℕ) (ps : List Pair) (a : List ℕ)
+    → burst_of d m store (map (λ p. p.start) ps) (map (λ p. p.length) ps) a ≡ burst d m store ps a
+unfolding burst_of uneven
+burst_apart d m store ps a =
+    rw (length-map ps (λ (p : Pair). p.length), length-map ps (λ (p : Pair). p.start), eq-eqb (length ps) (length ps) refl, pairs_apart ps)

@@ -29,15 +29,15 @@ burst d m store ps a = if refuses (length ps) (length a) then refused d m a else
 
 -- ---- the pair list as two lists of numbers, its starts and its lengths
 
-unfoldable pub pairsOf : List ℕ → List ℕ → List Pair
-pairsOf [] ns = []
-pairsOf (s ∷ ss) [] = []
-pairsOf (s ∷ ss) (n ∷ ns) = pair s n ∷ pairsOf ss ns
+unfoldable pub pairs_of : List ℕ → List ℕ → List Pair
+pairs_of [] ns = []
+pairs_of (s ∷ ss) [] = []
+pairs_of (s ∷ ss) (n ∷ ns) = pair s n ∷ pairs_of ss ns
 
 -- two lists of different lengths are no pair list
 unfoldable pub uneven : List ℕ → List ℕ → Bool
 uneven ss ns = not (eqb (length ns) (length ss))
 
 -- and the call is refused in the same way
-unfoldable pub burstOf : Enet → List ℕ → List ℕ → List ℕ → List ℕ → List ℕ → Bursting
-burstOf d m store ss ns a = if uneven ss ns then refused d m a else burst d m store (pairsOf ss ns) a
+unfoldable pub burst_of : Enet → List ℕ → List ℕ → List ℕ → List ℕ → List ℕ → Bursting
+burst_of d m store ss ns a = if uneven ss ns then refused d m a else burst d m store (pairs_of ss ns) a

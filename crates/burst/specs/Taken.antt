@@ -4,23 +4,23 @@ use Rattle.std.specs.Prelude.{ℕ, List, [], ◌∷◌, length}
 use Rattle.rules.specs.Choice.{if◌then◌else◌}
 use Rattle.pair.specs.declared.Pair.{Pair}
 use Rattle.pair.specs.Pair.{passes, bytes_of}
-use Rattle.burst.specs.Burst.{refuses, pairsOf, uneven}
+use Rattle.burst.specs.Burst.{refuses, pairs_of, uneven}
 
 -- the pairs that a burst takes: "a refused burst .. none"
 unfoldable pub taken : List ℕ → List ℕ → List ℕ → List Pair
 taken ss ns a =
     if uneven ss ns then [] else
-    if refuses (length (pairsOf ss ns)) (length a) then [] else
-    pairsOf ss ns
+    if refuses (length (pairs_of ss ns)) (length a) then [] else
+    pairs_of ss ns
 
 -- the frames of the pairs inside the store, in order
-unfoldable pub framesInside : List ℕ → List Pair → List (List ℕ)
-framesInside store [] = []
-framesInside store (p ∷ ps) = if passes store p then framesInside store ps else bytes_of store p ∷ framesInside store ps
+unfoldable pub frames_inside : List ℕ → List Pair → List (List ℕ)
+frames_inside store [] = []
+frames_inside store (p ∷ ps) = if passes store p then frames_inside store ps else bytes_of store p ∷ frames_inside store ps
 
 -- of an answer for each pair, the answers of those inside
-unfoldable pub answersInside : List ℕ → List Pair → List ℕ → List ℕ
-answersInside store [] answers = []
-answersInside store (p ∷ ps) [] = []
-answersInside store (p ∷ ps) (n ∷ answers) =
-    if passes store p then answersInside store ps answers else n ∷ answersInside store ps answers
+unfoldable pub answers_inside : List ℕ → List Pair → List ℕ → List ℕ
+answers_inside store [] answers = []
+answers_inside store (p ∷ ps) [] = []
+answers_inside store (p ∷ ps) (n ∷ answers) =
+    if passes store p then answers_inside store ps answers else n ∷ answers_inside store ps answers

@@ -3,6 +3,6 @@ use Rattle.std.specs.Prelude.{ℕ, suc, List, [], ◌∷◌}
 use Rattle.pair.specs.declared.Pair.{Pair}
 use Rattle.pair.specs.Turn.{Bursting, turn}
 
-unfoldable pub turnsOf : Bursting → List ℕ → ℕ → List Pair → Bursting
-turnsOf b store i [] = b
-turnsOf b store i (p ∷ ps) = turnsOf (turn b store i p) store (suc i) ps
+unfoldable pub turns_of : Bursting → List ℕ → ℕ → List Pair → Bursting
+turns_of b store i [] = b
+turns_of b store i (p ∷ ps) = turns_of (turn b store i p) store (suc i) ps

@@ -3,8 +3,8 @@
 // methods of `Enet` do, and stands above them since it is made of single receives.
 ghost use Rattle.std.specs.Prelude.{◌≡◌, length};
 ghost use Rattle.pair.specs.Turn.{bursting};
-ghost use Rattle.burst.specs.Burst.{refuses, pairsOf, burstOf};
-ghost use Rattle.burst.specs.Turns.{turnsOf};
+ghost use Rattle.burst.specs.Burst.{refuses, pairs_of, burst_of};
+ghost use Rattle.burst.specs.Turns.{turns_of};
 
 use enet::{Answered, Enet};
 
@@ -28,7 +28,7 @@ fn each(
     answers: &mut [u32],
 ) -> Answered
     requires { length lengths.now ≡ length starts.now }
-    ensures { bursting result memory.new answers.new ≡ turnsOf (bursting begun memory.old answers.old) store.now 0 (pairsOf starts.now lengths.now) }
+    ensures { bursting result memory.new answers.new ≡ turns_of (bursting begun memory.old answers.old) store.now 0 (pairs_of starts.now lengths.now) }
 {
     let mut last = begun;
     let mut i = 0;
@@ -48,7 +48,7 @@ pub fn burst(
     lengths: &[u32],
     answers: &mut [u32],
 ) -> Answered
-    ensures { bursting result memory.new answers.new ≡ burstOf device memory.old store.now starts.now lengths.now answers.old }
+    ensures { bursting result memory.new answers.new ≡ burst_of device memory.old store.now starts.now lengths.now answers.old }
 {
     let refused = Answered {
         number: answer::BURST,

@@ -6,8 +6,8 @@ use Rattle.pair.specs.Turn.{Bursting}
 use Rattle.timing.specs.Timing.{Received, rounds}
 
 -- single receives, with no grant in between
-abbrev pub singleReceives : ℕ → ℕ → Enet → List ℕ → List ℕ → Received
-singleReceives left taken d m f = rounds (λ d m. receive d m f) left taken d m
+abbrev pub single_receives : ℕ → ℕ → Enet → List ℕ → List ℕ → Received
+single_receives left taken d m f = rounds (λ d m. receive d m f) left taken d m
 
 -- one burst: its number, the memory and the answers that it leaves
 pub record Gave : Type 0 where
@@ -18,5 +18,5 @@ pub record Gave : Type 0 where
 abbrev pub gave : ℕ → List ℕ → List ℕ → Gave
 gave n m a = record { number = n; memory = m; answers = a }
 
-abbrev pub ofBurst : Bursting → Gave
-ofBurst b = gave b.number b.memory b.answers
+abbrev pub of_burst : Bursting → Gave
+of_burst b = gave b.number b.memory b.answers

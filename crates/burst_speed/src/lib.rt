@@ -1,14 +1,14 @@
 // A burst beside single receives, for C to time (benchmark/). They stand in a library of their own: with more callers of the
 // device's receive in one library the compiler builds it in another way, and `speed` would be measured anew.
 ghost use Rattle.std.specs.Prelude.{◌≡◌};
-ghost use Rattle.burst.specs.Burst.{burstOf};
-ghost use Rattle.timing.specs.Timing.{bench, windowOf, received};
-ghost use Rattle.burst_speed.specs.Bursts.{singleReceives, gave, ofBurst};
+ghost use Rattle.burst.specs.Burst.{burst_of};
+ghost use Rattle.timing.specs.Timing.{bench, window_of, received};
+ghost use Rattle.burst_speed.specs.Bursts.{single_receives, gave, of_burst};
 
 // Single receives of one frame, with no grant in between; how many were taken.
 #[unsafe(no_mangle)]
 pub extern "C" fn speed_singles(memory: &mut [u8], frame: &[u8], rounds: u32) -> u32
-    ensures { received result memory.new ≡ singleReceives rounds 0 (bench (windowOf memory.old)) memory.old frame.now }
+    ensures { received result memory.new ≡ single_receives rounds 0 (bench (window_of memory.old)) memory.old frame.now }
 {
     let mut device = timing::bench((memory.len() % 0x1_0000_0000) as u32);
     let mut taken = 0;
@@ -31,7 +31,7 @@ pub extern "C" fn speed_burst(
     lengths: &[u32],
     answers: &mut [u32],
 ) -> u32
-    ensures { gave result memory.new answers.new ≡ ofBurst (burstOf (bench (windowOf memory.old)) memory.old store.now starts.now lengths.now answers.old) }
+    ensures { gave result memory.new answers.new ≡ of_burst (burst_of (bench (window_of memory.old)) memory.old store.now starts.now lengths.now answers.old) }
 {
     let device = timing::bench((memory.len() % 0x1_0000_0000) as u32);
     burst::burst(device, memory, store, starts, lengths, answers).number

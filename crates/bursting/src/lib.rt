@@ -2,9 +2,9 @@
 ghost use Rattle.std.specs.Prelude.{◌≡◌, ◌≤◌, length, take, replicate};
 ghost use Rattle.words.specs.Words.{first, rest};
 ghost use Rattle.forms.specs.Pairs.{named};
-ghost use Rattle.pair_words.specs.PairWords.{everyOther};
+ghost use Rattle.pair_words.specs.PairWords.{every_other};
 ghost use Rattle.commands.specs.Answers.{given, tells};
-ghost use Rattle.commands.specs.Commands.{answerList, starts, lengths, burst};
+ghost use Rattle.commands.specs.Commands.{answer_list, starts, lengths, burst};
 
 use commands::{Console, Told};
 use forms::pairs;
@@ -31,7 +31,7 @@ fn call(
     text: &mut [u8],
     at: usize,
 ) -> Told
-    ensures { given result memory.new text.new ≡ tells (burst console memory.old store.now starts.now lengths.now (answerList room)) text.old at }
+    ensures { given result memory.new text.new ≡ tells (burst console memory.old store.now starts.now lengths.now (answer_list room)) text.old at }
 {
     let mut all = longest();
     let k = commands::within(room as usize, MOST);
@@ -52,7 +52,7 @@ fn call(
 // The numbers of n words, every other one from the first on.
 fn numbers(s: &[u8], n: usize) -> [u32; MOST]
     requires { n ≤ 66 }
-    ensures { (take n result ≡ everyOther n s.now) × (66 ≡ length result) }
+    ensures { (take n result ≡ every_other n s.now) × (66 ≡ length result) }
 {
     let mut all = [0; MOST];
     pair_words::every_other(s, n, &mut all, 0);
@@ -76,7 +76,7 @@ pub fn burst(
     text: &mut [u8],
     at: usize,
 ) -> Told
-    ensures { given result memory.new text.new ≡ tells (burst console memory.old (named (first (rest (rest line.now)))) (starts count line.now) (lengths count line.now) (answerList room)) text.old at }
+    ensures { given result memory.new text.new ≡ tells (burst console memory.old (named (first (rest (rest line.now)))) (starts count line.now) (lengths count line.now) (answer_list room)) text.old at }
 {
     let words = rest(rest(line));
     let mut bytes = blank();

@@ -12,8 +12,8 @@ use Rattle.enet.specs.Run.{Running, run}
 use Rattle.enet.specs.Tick.{tick}
 use Rattle.pair.specs.declared.Pair.{Pair}
 use Rattle.pair.specs.Turn.{Bursting}
-use Rattle.burst.specs.Burst.{burstOf}
-use Rattle.burst.specs.Taken.{taken, answersInside}
+use Rattle.burst.specs.Burst.{burst_of}
+use Rattle.burst.specs.Taken.{taken, answers_inside}
 use Rattle.calls.specs.Looks.{Look, Seen, sees}
 
 -- the device, and the memory that the caller lends it
@@ -23,16 +23,16 @@ pub record Bench : Type 0 where
 
 pub data Call : Type 0 where
   looks : Look → Call
-  registerWrite : (offset value : ℕ) → Call
-  grantCall : (address : ℕ) → Call
-  receiveCall : (frame : List ℕ) → Call
-  -- a burst of the pairs of two lists. A burst over a list of pairs is the one over its starts and its lengths (`burst-apart`
+  register_write : (offset value : ℕ) → Call
+  grant_call : (address : ℕ) → Call
+  receive_call : (frame : List ℕ) → Call
+  -- a burst of the pairs of two lists. A burst over a list of pairs is the one over its starts and its lengths (`burst_apart`
   -- in `burst`)
-  burstCall : (store starts lengths answers : List ℕ) → Call
-  sendCall : (output : List ℕ) → Call
-  stepRun : (output : List ℕ) (allowance : ℕ) → Call
+  burst_call : (store starts lengths answers : List ℕ) → Call
+  send_call : (output : List ℕ) → Call
+  step_run : (output : List ℕ) (allowance : ℕ) → Call
   -- 02, Wish 9
-  tickCall : Call
+  tick_call : Call
 
 -- what a call gives: its number (0 where it has none), the bench that it leaves, a value (that a look sees, or how many bytes
 -- were sent), the steps of a step run, bytes (the output of a send, or what a look sees), the answers of its receives, in
@@ -50,18 +50,18 @@ pub record Result : Type 0 where
 abbrev pub answered : ℕ → Bench → Result
 answered n b = record { number = n; bench = b; value = 0; steps = 0; bytes = []; answers = []; list = [] }
 
-abbrev pub ofLook : Bench → Seen → Result
-ofLook b s = record { number = s.number; bench = b; value = s.value; steps = 0; bytes = s.bytes; answers = []; list = [] }
+abbrev pub of_look : Bench → Seen → Result
+of_look b s = record { number = s.number; bench = b; value = s.value; steps = 0; bytes = s.bytes; answers = []; list = [] }
 
 -- a register access lends no memory, and a tick writes none
-abbrev pub ofAnswered : Bench → Answered → Result
-ofAnswered b a = answered a.number (record { device = a.device; memory = b.memory })
+abbrev pub of_answered : Bench → Answered → Result
+of_answered b a = answered a.number (record { device = a.device; memory = b.memory })
 
-abbrev pub ofGrant : Outcome → Result
-ofGrant o = answered o.number (record { device = o.device; memory = o.memory })
+abbrev pub of_grant : Outcome → Result
+of_grant o = answered o.number (record { device = o.device; memory = o.memory })
 
-abbrev pub ofReceive : Outcome → Result
-ofReceive o = record {
+abbrev pub of_receive : Outcome → Result
+of_receive o = record {
   number = o.number;
   bench = record { device = o.device; memory = o.memory };
   value = 0;
@@ -72,19 +72,19 @@ ofReceive o = record {
 }
 
 -- a pair outside the store is no receive
-abbrev pub ofBurst : List ℕ → List Pair → Bursting → Result
-ofBurst store pairs r = record {
+abbrev pub of_burst : List ℕ → List Pair → Bursting → Result
+of_burst store pairs r = record {
   number = r.number;
   bench = record { device = r.device; memory = r.memory };
   value = 0;
   steps = 0;
   bytes = [];
-  answers = answersInside store pairs r.answers;
+  answers = answers_inside store pairs r.answers;
   list = r.answers;
 }
 
-abbrev pub ofSending : Sending → Result
-ofSending s = record {
+abbrev pub of_sending : Sending → Result
+of_sending s = record {
   number = s.number;
   bench = record { device = s.device; memory = s.memory };
   value = s.count;
@@ -94,8 +94,8 @@ ofSending s = record {
   list = [];
 }
 
-abbrev pub ofRunning : Running → Result
-ofRunning r = record {
+abbrev pub of_running : Running → Result
+of_running r = record {
   number = r.number;
   bench = record { device = r.device; memory = r.memory };
   value = r.count;
@@ -106,12 +106,12 @@ ofRunning r = record {
 }
 
 abbrev pub call : Bench → Call → Result
-call b (looks look) = ofLook b (sees b.device b.memory look)
-call b (registerWrite offset value) = ofAnswered b (write b.device offset value)
-call b (grantCall address) = ofGrant (grant b.device b.memory address)
-call b (receiveCall frame) = ofReceive (receive b.device b.memory frame)
-call b (burstCall store starts lengths answers) =
-    ofBurst store (taken starts lengths answers) (burstOf b.device b.memory store starts lengths answers)
-call b (sendCall output) = ofSending (send b.device b.memory output)
-call b (stepRun output allowance) = ofRunning (run b.device b.memory output allowance)
-call b tickCall = ofAnswered b (tick b.device b.memory)
+call b (looks look) = of_look b (sees b.device b.memory look)
+call b (register_write offset value) = of_answered b (write b.device offset value)
+call b (grant_call address) = of_grant (grant b.device b.memory address)
+call b (receive_call frame) = of_receive (receive b.device b.memory frame)
+call b (burst_call store starts lengths answers) =
+    of_burst store (taken starts lengths answers) (burst_of b.device b.memory store starts lengths answers)
+call b (send_call output) = of_sending (send b.device b.memory output)
+call b (step_run output allowance) = of_running (run b.device b.memory output allowance)
+call b tick_call = of_answered b (tick b.device b.memory)

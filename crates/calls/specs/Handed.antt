@@ -1,8 +1,8 @@
 -- What a call is handed, by kind: where a claim asks for the frames, the grants, the register, the output or the answer list of
 -- any call, it reads it here. Assumes nothing.
 use Rattle.std.specs.Prelude.{ℕ, List, [], ◌∷◌}
-use Rattle.burst.specs.Taken.{taken, framesInside}
-use Rattle.calls.specs.Calls.{Call, looks, registerWrite, grantCall, receiveCall, burstCall, sendCall, stepRun, tickCall}
+use Rattle.burst.specs.Taken.{taken, frames_inside}
+use Rattle.calls.specs.Calls.{Call, looks, register_write, grant_call, receive_call, burst_call, send_call, step_run, tick_call}
 
 pub record Handed : Type 0 where
   -- the registers that it writes, if it is not refused
@@ -19,26 +19,26 @@ pub record Handed : Type 0 where
 abbrev pub none : Handed
 none = record { registers = []; grants = []; frames = []; output = []; list = [] }
 
-abbrev pub aRegister : ℕ → Handed
-aRegister offset = record { registers = offset ∷ []; grants = []; frames = []; output = []; list = [] }
+abbrev pub a_register : ℕ → Handed
+a_register offset = record { registers = offset ∷ []; grants = []; frames = []; output = []; list = [] }
 
-abbrev pub aGrant : ℕ → Handed
-aGrant address = record { registers = []; grants = address ∷ []; frames = []; output = []; list = [] }
+abbrev pub a_grant : ℕ → Handed
+a_grant address = record { registers = []; grants = address ∷ []; frames = []; output = []; list = [] }
 
 -- frames, and the answer list of a burst
-abbrev pub theFrames : List (List ℕ) → List ℕ → Handed
-theFrames frames list = record { registers = []; grants = []; frames = frames; output = []; list = list }
+abbrev pub the_frames : List (List ℕ) → List ℕ → Handed
+the_frames frames list = record { registers = []; grants = []; frames = frames; output = []; list = list }
 
-abbrev pub anOutput : List ℕ → Handed
-anOutput output = record { registers = []; grants = []; frames = []; output = output; list = [] }
+abbrev pub an_output : List ℕ → Handed
+an_output output = record { registers = []; grants = []; frames = []; output = output; list = [] }
 
 abbrev pub handed : Call → Handed
 handed (looks look) = none
-handed (registerWrite offset value) = aRegister offset
-handed (grantCall address) = aGrant address
-handed (receiveCall frame) = theFrames (frame ∷ []) []
+handed (register_write offset value) = a_register offset
+handed (grant_call address) = a_grant address
+handed (receive_call frame) = the_frames (frame ∷ []) []
 -- 02: "a burst stands in its list as one receive for each pair inside the store, a refused burst as none"
-handed (burstCall store starts lengths answers) = theFrames (framesInside store (taken starts lengths answers)) answers
-handed (sendCall output) = anOutput output
-handed (stepRun output allowance) = anOutput output
-handed tickCall = none
+handed (burst_call store starts lengths answers) = the_frames (frames_inside store (taken starts lengths answers)) answers
+handed (send_call output) = an_output output
+handed (step_run output allowance) = an_output output
+handed tick_call = none

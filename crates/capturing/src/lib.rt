@@ -3,7 +3,7 @@
 ghost use Rattle.std.specs.Prelude.{◌≡◌, drop};
 ghost use Rattle.event.specs.Front.{front, found};
 ghost use Rattle.event.specs.Walk.{walk};
-ghost use Rattle.capturing.specs.Capturing.{kept, keep, keepFound, capturing, next, captureAll, begun};
+ghost use Rattle.capturing.specs.Capturing.{kept, keep, keep_found, capturing, next, capture_all, begun};
 
 use enet::Enet;
 use event::Found;
@@ -55,7 +55,7 @@ fn keep_found(
     sent: &[u8],
     list: &mut [u8],
 ) -> Kept
-    ensures { kept result list.new ≡ keepFound (kept before list.old) i events.now found number sent.now }
+    ensures { kept result list.new ≡ keep_found (kept before list.old) i events.now found number sent.now }
 {
     match found {
         Found::RegisterWrite(_, _) => before,
@@ -90,7 +90,7 @@ fn event(
 
 // All events of a list, one behind the other.
 fn all(begun: Day, events: &[u8], memory: &mut [u8], output: &mut [u8], list: &mut [u8]) -> Day
-    ensures { capturing result memory.new output.new list.new ≡ captureAll (capturing begun memory.old output.old list.old) 0 (walk events.now).events }
+    ensures { capturing result memory.new output.new list.new ≡ capture_all (capturing begun memory.old output.old list.old) 0 (walk events.now).events }
 {
     let mut day = begun;
     let mut place = 0;
@@ -114,7 +114,7 @@ pub fn capture(
     output: &mut [u8],
     list: &mut [u8],
 ) -> Day
-    ensures { capturing result memory.new output.new list.new ≡ captureAll (begun base window memory.old output.old list.old) 0 (walk events.now).events }
+    ensures { capturing result memory.new output.new list.new ≡ capture_all (begun base window memory.old output.old list.old) 0 (walk events.now).events }
 {
     let made = Enet::new(base, window);
     let device = made.device;

@@ -1,11 +1,11 @@
 // The buffer of a descriptor and its faults.
 ghost use Rattle.std.specs.Prelude.{◌≡◌};
 ghost use Rattle.descriptor.specs.Descriptor.{count, start};
-ghost use Rattle.chain.specs.Buffer.{bytesFault, bufferFault};
+ghost use Rattle.chain.specs.Buffer.{bytes_fault, buffer_fault};
 
 // n bytes lie outside the window or share a byte with their descriptor.
 fn bytes_fault(base: u32, window: u32, d: u32, from: u32, n: u32) -> bool
-    ensures { result ≡ bytesFault base window d from n }
+    ensures { result ≡ bytes_fault base window d from n }
 {
     if n == 0 {
         return false;
@@ -21,7 +21,7 @@ fn bytes_fault(base: u32, window: u32, d: u32, from: u32, n: u32) -> bool
 
 // The buffer of a descriptor cannot take, or give, n bytes.
 pub(crate) fn buffer_fault(base: u32, window: u32, m: &[u8], d: u32, n: usize) -> bool
-    ensures { result ≡ bufferFault base window d (start base m.now d) (count base m.now d) n }
+    ensures { result ≡ buffer_fault base window d (start base m.now d) (count base m.now d) n }
 {
     if !descriptor::start_aligned(base, m, d) {
         return true;

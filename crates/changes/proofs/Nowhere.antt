@@ -5,22 +5,22 @@ use mathlib.Core.Logic.{◌≢◌}
 use mathlib.Core.List.{List, []}
 use native.Mathlib.Omega.{arith}
 use lib.Dec.{eqb, ltb}
-use Rattle.rules.proofs.Choices.{by-test}
+use Rattle.rules.proofs.Choices.{by_test}
 use Rattle.enet.specs.declared.Enet.{Enet}
 use Rattle.enet.specs.Access.{read}
 use Rattle.enet.specs.Send.{send}
 use Rattle.enet.specs.Run.{Running, sends, run}
-use Rattle.calls.specs.Calls.{Bench, Call, looks, registerWrite, grantCall, receiveCall, burstCall, sendCall, stepRun, tickCall}
-use Rattle.enet.proofs.Sends.{send-unsent}
+use Rattle.calls.specs.Calls.{Bench, Call, looks, register_write, grant_call, receive_call, burst_call, send_call, step_run, tick_call}
+use Rattle.enet.proofs.Sends.{send_unsent}
 use Rattle.changes.specs.Nowhere.{Kept, NowhereElse}
-use Rattle.enet.proofs.Ways.{by-grant, by-receive}
-use Rattle.outputs.proofs.Sends.{send-front, send-size}
-use Rattle.changes.proofs.Memories.{same, grant-kept, receive-kept, send-kept, run-kept}
-use Rattle.outputs.proofs.Outputs.{run-front}
-use Rattle.changes.proofs.Devices.{write-parts, receive-parts, send-parts, run-parts, tick-parts}
-use Rattle.burst.proofs.Laws.{length-burst}
-use Rattle.changes.proofs.Bursts.{burst-kept, burst-refused, burst-parts, burst-status}
-use Rattle.changes.proofs.Statuses.{receive-status, send-status, run-status, tick-status, write-status}
+use Rattle.enet.proofs.Ways.{by_grant, by_receive}
+use Rattle.outputs.proofs.Sends.{send_front, send_size_lem}
+use Rattle.changes.proofs.Memories.{same, grant_kept, receive_kept, send_kept, run_kept}
+use Rattle.outputs.proofs.Outputs.{run_front}
+use Rattle.changes.proofs.Devices.{write_parts, receive_parts, send_parts, run_parts, tick_parts}
+use Rattle.burst.proofs.Laws.{length_burst}
+use Rattle.changes.proofs.Bursts.{burst_kept, burst_refused, burst_parts, burst_status_lem}
+use Rattle.changes.proofs.Statuses.{receive_status_lem, send_status_lem, run_status_lem, tick_status_lem, write_status_lem}
 
 -- ---- a refusal changes no byte
 
@@ -29,7 +29,7 @@ no_step : (left : ℕ) (d : Enet) (m out : List ℕ) → (sends left d m out).st
 unfolding sends
 no_step zero d m out = λ _. refl
 no_step (suc left) d m out =
-    by-test (λ (r : Running). r.steps ≡ 0 → r.memory ≡ m) (eqb (send d m out).number 0) _ _
+    by_test (λ (r : Running). r.steps ≡ 0 → r.memory ≡ m) (eqb (send d m out).number 0) _ _
     (λ _ z. absurd (omega arith))
     (λ _ z. absurd (omega arith))
 
@@ -38,58 +38,58 @@ no_step (suc left) d m out =
 kept : (b : Bench) (c : Call) → Kept b c
 unfolding run
 kept b (looks look) = record { memory = same _ _; refused = λ n z. refl; device = refl }
-kept b (registerWrite address value) = record { memory = same _ _; refused = λ n z. refl; device = write-parts b address value }
-kept b (grantCall address) = record {
-  memory = grant-kept b address;
+kept b (register_write address value) = record { memory = same _ _; refused = λ n z. refl; device = write_parts b address value }
+kept b (grant_call address) = record {
+  memory = grant_kept b address;
   refused = λ n z.
-      by-grant (λ o. o.number ≢ 0 → o.memory ≡ b.memory) b.device b.memory address
+      by_grant (λ o. o.number ≢ 0 → o.memory ≡ b.memory) b.device b.memory address
       (λ _. refl) (λ _. refl) (λ _. refl) (λ h. absurd (h refl)) n;
-  device = by-grant (λ o. o.device ≡ b.device) b.device b.memory address refl refl refl refl;
+  device = by_grant (λ o. o.device ≡ b.device) b.device b.memory address refl refl refl refl;
 }
-kept b (receiveCall frame) = record {
-  memory = receive-kept b frame;
+kept b (receive_call frame) = record {
+  memory = receive_kept b frame;
   refused = λ n z.
-      by-receive (λ o. o.number ≢ 0 → o.memory ≡ b.memory) b.device b.memory frame
+      by_receive (λ o. o.number ≢ 0 → o.memory ≡ b.memory) b.device b.memory frame
       (λ _. refl) (λ _. refl) (λ _. refl) (λ _. refl) (λ _. refl) (λ _. refl) (λ _. refl) (λ h. absurd (h refl)) n;
-  device = receive-parts b.device b.memory frame;
+  device = receive_parts b.device b.memory frame;
 }
-kept b (burstCall store starts lengths answers) = record {
-  memory = burst-kept b store starts lengths answers;
-  refused = λ n z. burst-refused b store starts lengths answers n;
-  device = burst-parts b store starts lengths answers;
+kept b (burst_call store starts lengths answers) = record {
+  memory = burst_kept b store starts lengths answers;
+  refused = λ n z. burst_refused b store starts lengths answers n;
+  device = burst_parts b store starts lengths answers;
 }
-kept b (sendCall output) = record {
-  memory = send-kept b output [];
-  refused = λ n z. (send-unsent b.device b.memory output n).memory;
-  device = send-parts b.device b.memory output;
+kept b (send_call output) = record {
+  memory = send_kept b output [];
+  refused = λ n z. (send_unsent b.device b.memory output n).memory;
+  device = send_parts b.device b.memory output;
 }
-kept b (stepRun output allowance) = record {
-  memory = run-kept b output allowance;
+kept b (step_run output allowance) = record {
+  memory = run_kept b output allowance;
   refused = λ n z.
-      by-test (λ (r : Running). r.steps ≡ 0 → r.memory ≡ b.memory) (ltb 4096 allowance) _ _
+      by_test (λ (r : Running). r.steps ≡ 0 → r.memory ≡ b.memory) (ltb 4096 allowance) _ _
       (λ _ _. refl)
       (λ _. no_step allowance b.device b.memory output)
       z;
-  device = run-parts b.device b.memory output allowance;
+  device = run_parts b.device b.memory output allowance;
 }
-kept b tickCall = record { memory = same _ _; refused = λ n z. refl; device = tick-parts b.device b.memory }
+kept b tick_call = record { memory = same _ _; refused = λ n z. refl; device = tick_parts b.device b.memory }
 
-read-device : (d : Enet) (offset : ℕ) → (read d offset).device ≡ d
+read_device : (d : Enet) (offset : ℕ) → (read d offset).device ≡ d
 unfolding read
-read-device d offset = refl
+read_device d offset = refl
 
-pub changes-nowhere-else : NowhereElse
-changes-nowhere-else = record {
+pub changes_nowhere_else : NowhereElse
+changes_nowhere_else = record {
   calls = kept;
-  registerRead = read-device;
-  sendOutput = λ b output. send-front b.device b.memory output;
-  sendSize = send-size;
-  runOutput = run-front;
-  receiveStatus = receive-status;
-  burstStatus = burst-status;
-  burstList = λ b store starts lengths answers. length-burst b.device b.memory store starts lengths answers;
-  sendStatus = λ b output. send-status b.device b.memory output;
-  runStatus = run-status;
-  tickStatus = tick-status;
-  writeStatus = write-status;
+  register_read = read_device;
+  send_output = λ b output. send_front b.device b.memory output;
+  send_size = send_size_lem;
+  run_output = run_front;
+  receive_status = receive_status_lem;
+  burst_status = burst_status_lem;
+  burst_list = λ b store starts lengths answers. length_burst b.device b.memory store starts lengths answers;
+  send_status = λ b output. send_status_lem b.device b.memory output;
+  run_status = run_status_lem;
+  tick_status = tick_status_lem;
+  write_status = write_status_lem;
 }

@@ -3,7 +3,7 @@ use Rattle.std.specs.Prelude.{ℕ, zero, suc, ◌+◌, ◌≤◌, ◌<◌, ◌�
 use Rattle.rules.specs.Choice.{if◌then◌else◌}
 use Rattle.window.specs.Window.{offset}
 use Rattle.descriptor.specs.Descriptor.{start}
-use Rattle.calls.specs.Calls.{Bench, Call, looks, registerWrite, grantCall, receiveCall, burstCall, sendCall, stepRun, tickCall, call}
+use Rattle.calls.specs.Calls.{Bench, Call, looks, register_write, grant_call, receive_call, burst_call, send_call, step_run, tick_call, call}
 use Rattle.calls.specs.Handed.{handed}
 use Rattle.outputs.specs.Runs.{Stand, begins, single, further}
 
@@ -13,49 +13,49 @@ pub record Region : Type 0 where
   pub size : ℕ
 
 -- the packet status word of the descriptor at an address
-abbrev pub statusWord : Bench → ℕ → Region
-statusWord b address = record { from = offset b.device.base address + 12; size = 4 }
+abbrev pub status_word : Bench → ℕ → Region
+status_word b address = record { from = offset b.device.base address + 12; size = 4 }
 
 -- "the whole frame, check sequence included, from the start address on"
-abbrev pub frameBytes : Bench → List ℕ → Region
-frameBytes b frame = record {
+abbrev pub frame_bytes : Bench → List ℕ → Region
+frame_bytes b frame = record {
   from = offset b.device.base (start b.device.base b.memory b.device.registers.rx.place);
   size = length frame;
 }
 
 -- "A delivery writes the whole frame .. then the packet status word"
 abbrev pub delivery : Bench → List ℕ → List Region
-delivery b frame = frameBytes b frame ∷ statusWord b b.device.registers.rx.place ∷ []
+delivery b frame = frame_bytes b frame ∷ status_word b b.device.registers.rx.place ∷ []
 
 -- of single receives one behind the other: what each delivery writes, as the receive before it left the bench
 unfoldable pub deliveries : Bench → List (List ℕ) → List Region
 deliveries b [] = []
 deliveries b (frame ∷ frames) =
-    let r = call b (receiveCall frame) in
+    let r = call b (receive_call frame) in
     (if eqb r.number 0 then delivery b frame else []) ++ deliveries r.bench frames
 
 -- the packet status words of the descriptors that a run's next k single sends sent
-abbrev pub sentWords : ℕ → Stand → List Region
-sentWords zero s = []
-sentWords (suc k) s =
+abbrev pub sent_words : ℕ → Stand → List Region
+sent_words zero s = []
+sent_words (suc k) s =
     if eqb (single s).number 0
-    then statusWord s.bench s.bench.device.registers.tx.place ∷ sentWords k (further s)
+    then status_word s.bench s.bench.device.registers.tx.place ∷ sent_words k (further s)
     else []
 
 -- where a call may write
 abbrev pub regions : Bench → Call → List Region
 regions b (looks look) = []
-regions b (registerWrite address value) = []
+regions b (register_write address value) = []
 -- "Granting a receive descriptor writes its packet status word .. No other byte changes."
-regions b (grantCall address) = statusWord b address ∷ []
+regions b (grant_call address) = status_word b address ∷ []
 -- "A delivery writes the whole frame .. then the packet status word .. Buffer bytes past the frame stay."
-regions b (receiveCall frame) = delivery b frame
+regions b (receive_call frame) = delivery b frame
 -- 02, Wish 1: "State, window and answers equal those of single receives"
-regions b (burstCall store starts lengths answers) = deliveries b (handed (burstCall store starts lengths answers)).frames
+regions b (burst_call store starts lengths answers) = deliveries b (handed (burst_call store starts lengths answers)).frames
 -- "It marks the descriptor returned"
-regions b (sendCall output) = statusWord b b.device.registers.tx.place ∷ []
-regions b (stepRun output allowance) = sentWords (call b (stepRun output allowance)).steps (begins b output)
-regions b tickCall = []
+regions b (send_call output) = status_word b b.device.registers.tx.place ∷ []
+regions b (step_run output allowance) = sent_words (call b (step_run output allowance)).steps (begins b output)
+regions b tick_call = []
 
 -- the byte at an offset lies in none of these
 abbrev pub Outside : ℕ → List Region → Type 0

@@ -11,20 +11,20 @@ take_within zero s = rw zero-min
 take_within (suc n) [] = rw min-zero
 take_within (suc n) (x ∷ s) = rw (suc-min-suc, take_within n s)
 
-drop-within : (n : ℕ) (s : List ℕ) → drop (min n (length s)) s ≡ drop n s
-drop-within zero s = rw zero-min
-drop-within (suc n) [] = rw min-zero
-drop-within (suc n) (x ∷ s) = rw suc-min-suc (drop-within n s)
+drop_within : (n : ℕ) (s : List ℕ) → drop (min n (length s)) s ≡ drop n s
+drop_within zero s = rw zero-min
+drop_within (suc n) [] = rw min-zero
+drop_within (suc n) (x ∷ s) = rw suc-min-suc (drop_within n s)
 
 module _ (s : List ℕ) (n l r : ℕ) (q : l ≡ length s) (e : r ≡ min n l) where
-  pub within-fits : r ≤ length s
-  within-fits = omega arith
+  pub within_fits : r ≤ length s
+  within_fits = omega arith
 
-  pub within-long : r ≡ length (take r s)
-  within-long = simp length-take (omega arith)
+  pub within_long : r ≡ length (take r s)
+  within_long = simp length-take (omega arith)
 
-  pub within-seen : take r s ≡ take n s
-  within-seen = rw (e, q) (take_within n s)
+  pub within_seen : take r s ≡ take n s
+  within_seen = rw (e, q) (take_within n s)
 
-  pub within-kept : drop r s ≡ drop n s
-  within-kept = rw (e, q) (drop-within n s)
+  pub within_kept : drop r s ≡ drop n s
+  within_kept = rw (e, q) (drop_within n s)

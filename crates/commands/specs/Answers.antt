@@ -15,12 +15,12 @@ abbrev pub answers : Console → List ℕ → List ℕ → Answer
 answers c m s = record { console = c; memory = m; says = s }
 
 -- the console with another device
-abbrev pub withDevice : Console → Enet → Console
-withDevice c d = record { device = d; lent = c.lent; lines = c.lines }
+abbrev pub with_device : Console → Enet → Console
+with_device c d = record { device = d; lent = c.lent; lines = c.lines }
 
 -- the console with a new bench, whose window is lent
-abbrev pub withBench : Console → Answered → Console
-withBench c a = record { device = a.device; lent = a.device.window; lines = c.lines }
+abbrev pub with_bench : Console → Answered → Console
+with_bench c a = record { device = a.device; lent = a.device.window; lines = c.lines }
 
 -- an answer that was written into a lent buffer
 pub record Given : Type 0 where

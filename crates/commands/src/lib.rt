@@ -2,7 +2,7 @@
 // state, its next state, and how much of a buffer a command has. The code stands in the crates above: queries, peeking, poking,
 // lending, outgoing, bursting, asking, acting, console.
 ghost use Rattle.std.specs.Prelude.{◌≡◌, min};
-ghost use Rattle.commands.specs.Answers.{withDevice};
+ghost use Rattle.commands.specs.Answers.{with_device};
 
 use enet::Enet;
 
@@ -30,7 +30,7 @@ pub fn within(n: usize, length: usize) -> usize
 
 // The next console after a call of the device, which gave back the next device.
 pub fn next(console: Console, device: Enet, end: usize) -> Told
-    ensures { result ≡ record { console = withDevice console device; end = end } }
+    ensures { result ≡ record { console = with_device console device; end = end } }
 {
     Told {
         console: Console {

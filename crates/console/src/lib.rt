@@ -1,7 +1,7 @@
 // The bench console (docs/CONSOLE.md): one line is answered by one line, in a buffer that the caller lends.
 ghost use Rattle.std.specs.Prelude.{◌≡◌};
 ghost use Rattle.commands.specs.Answers.{given, tells};
-ghost use Rattle.commands.specs.Answering.{reset, answerTo, counted, answer};
+ghost use Rattle.commands.specs.Answering.{reset, answer_to, counted, answer};
 
 use commands::{Console, Told};
 use enet::Enet;
@@ -38,7 +38,7 @@ fn make(
     text: &mut [u8],
     at: usize,
 ) -> Told
-    ensures { given result memory.new text.new ≡ tells (answerTo command console memory.old a b line.now) text.old at }
+    ensures { given result memory.new text.new ≡ tells (answer_to command console memory.old a b line.now) text.old at }
 {
     match kinds::kind_of(command) {
         Kind::Asks(query) => asking::told(console, query, a, b, memory, text, at),

@@ -4,24 +4,24 @@ use Rattle.memory.specs.Memory.{store}
 use Rattle.counters.specs.declared.Counters.{Counters}
 use Rattle.enet.specs.declared.Enet.{Enet}
 use Rattle.enet.specs.declared.Answered.{Answered}
-use Rattle.enet.specs.Device.{withCounters, new}
+use Rattle.enet.specs.Device.{with_counters, new}
 use Rattle.enet.specs.Run.{Running, run}
 use Rattle.enet.specs.Tick.{tick}
 use Rattle.pair.specs.Turn.{Bursting}
-use Rattle.burst.specs.Burst.{burstOf}
-use Rattle.playback.specs.Playing.{Played, benchOf, playInto}
+use Rattle.burst.specs.Burst.{burst_of}
+use Rattle.playback.specs.Playing.{Played, bench_of, play_into}
 
 -- a new bench over a window, but for its counters
 abbrev pub started : ℕ → ℕ → Counters → Enet
-started base window c = withCounters (new base window).device c
+started base window c = with_counters (new base window).device c
 
 -- the events of a list of bytes on it, as a replay plays them
-unfoldable pub playOn : ℕ → ℕ → Counters → List ℕ → List ℕ → List ℕ → List ℕ → Played
-playOn base window c memory output events answers = playInto answers (benchOf (started base window c) memory) output events
+unfoldable pub play_on : ℕ → ℕ → Counters → List ℕ → List ℕ → List ℕ → List ℕ → Played
+play_on base window c memory output events answers = play_into answers (bench_of (started base window c) memory) output events
 
 -- the counters and the interrupt status of a device
-abbrev pub deviceNumbers : Enet → List ℕ
-deviceNumbers d =
+abbrev pub device_numbers : Enet → List ℕ
+device_numbers d =
     let c = d.counters in c.delivered ∷ c.lost ∷ c.sent ∷ c.ticks ∷ d.registers.isr ∷ []
 
 -- ---- then a step run, and a tick
@@ -33,12 +33,12 @@ pub record RunLeft : Type 0 where
   pub answers : List ℕ
   pub found : List ℕ
 
-abbrev pub runLeft : List ℕ → List ℕ → List ℕ → List ℕ → RunLeft
-runLeft memory output answers found = record { memory = memory; output = output; answers = answers; found = found }
+abbrev pub run_left : List ℕ → List ℕ → List ℕ → List ℕ → RunLeft
+run_left memory output answers found = record { memory = memory; output = output; answers = answers; found = found }
 
 -- the run's number, steps and bytes, the tick's number, and the device behind it
-abbrev pub runNumbers : Running → Answered → List ℕ
-runNumbers r t = r.number ∷ r.steps ∷ r.count ∷ t.number ∷ deviceNumbers t.device
+abbrev pub run_numbers : Running → Answered → List ℕ
+run_numbers r t = r.number ∷ r.steps ∷ r.count ∷ t.number ∷ device_numbers t.device
 
 -- what the two leave, with their numbers
 pub record RunTold : Type 0 where
@@ -46,18 +46,18 @@ pub record RunTold : Type 0 where
   pub output : List ℕ
   pub numbers : List ℕ
 
-abbrev pub runTold : List ℕ → List ℕ → List ℕ → RunTold
-runTold memory output numbers = record { memory = memory; output = output; numbers = numbers }
+abbrev pub run_told : List ℕ → List ℕ → List ℕ → RunTold
+run_told memory output numbers = record { memory = memory; output = output; numbers = numbers }
 
-unfoldable pub runThenTick : Enet → List ℕ → List ℕ → ℕ → RunTold
-runThenTick d memory output allowance =
+unfoldable pub run_then_tick : Enet → List ℕ → List ℕ → ℕ → RunTold
+run_then_tick d memory output allowance =
     let r = run d memory output allowance in
-    runTold r.memory r.output (runNumbers r (tick r.device r.memory))
+    run_told r.memory r.output (run_numbers r (tick r.device r.memory))
 
-unfoldable pub runOn : Played → ℕ → List ℕ → RunLeft
-runOn p allowance found =
-    let r = runThenTick p.bench.device p.bench.memory p.output allowance in
-    runLeft r.memory r.output p.answers (store found 0 r.numbers)
+unfoldable pub run_on : Played → ℕ → List ℕ → RunLeft
+run_on p allowance found =
+    let r = run_then_tick p.bench.device p.bench.memory p.output allowance in
+    run_left r.memory r.output p.answers (store found 0 r.numbers)
 
 -- ---- or a burst
 
@@ -68,15 +68,15 @@ pub record BurstLeft : Type 0 where
   pub list : List ℕ
   pub found : List ℕ
 
-abbrev pub burstLeft : List ℕ → List ℕ → List ℕ → List ℕ → List ℕ → BurstLeft
-burstLeft memory output answers list found =
+abbrev pub burst_left : List ℕ → List ℕ → List ℕ → List ℕ → List ℕ → BurstLeft
+burst_left memory output answers list found =
     record { memory = memory; output = output; answers = answers; list = list; found = found }
 
 -- the burst's number, and the device behind it
-abbrev pub burstNumbers : Bursting → List ℕ
-burstNumbers b = b.number ∷ deviceNumbers b.device
+abbrev pub burst_numbers : Bursting → List ℕ
+burst_numbers b = b.number ∷ device_numbers b.device
 
-unfoldable pub burstOn : Played → List ℕ → List ℕ → List ℕ → List ℕ → List ℕ → BurstLeft
-burstOn p frames starts lengths list found =
-    let b = burstOf p.bench.device p.bench.memory frames starts lengths list in
-    burstLeft b.memory p.output p.answers b.answers (store found 0 (burstNumbers b))
+unfoldable pub burst_on : Played → List ℕ → List ℕ → List ℕ → List ℕ → List ℕ → BurstLeft
+burst_on p frames starts lengths list found =
+    let b = burst_of p.bench.device p.bench.memory frames starts lengths list in
+    burst_left b.memory p.output p.answers b.answers (store found 0 (burst_numbers b))

@@ -6,7 +6,7 @@ ghost use Rattle.counters.specs.Counters.{made};
 ghost use Rattle.enet.specs.Run.{running};
 ghost use Rattle.pair.specs.Turn.{bursting};
 ghost use Rattle.playback.specs.Playing.{played};
-ghost use Rattle.counter_trial.specs.Trials.{started, playOn, runNumbers, runTold, runThenTick, runLeft, runOn, burstNumbers, burstLeft, burstOn};
+ghost use Rattle.counter_trial.specs.Trials.{started, play_on, run_numbers, run_told, run_then_tick, run_left, run_on, burst_numbers, burst_left, burst_on};
 
 use counters::Counters;
 use enet::{Answered, Enet, Ran};
@@ -31,7 +31,7 @@ fn played(
     events: &[u8],
     answers: &mut [u32],
 ) -> Enet
-    ensures { played result memory.new output.new answers.new ≡ playOn base window counters memory.old output.old events.now answers.old }
+    ensures { played result memory.new output.new answers.new ≡ play_on base window counters memory.old output.old events.now answers.old }
 {
     let device = started(base, window, counters);
     playback::play(device, memory, output, events, answers)
@@ -39,7 +39,7 @@ fn played(
 
 // What a step run and the tick behind it answered.
 fn run_numbers(ran: Ran, t: Answered) -> [u64; 9]
-    ensures { result ≡ runNumbers (running ran [] []) t }
+    ensures { result ≡ run_numbers (running ran [] []) t }
 {
     let device = t.device;
     let counters = device.counters;
@@ -59,7 +59,7 @@ fn run_numbers(ran: Ran, t: Answered) -> [u64; 9]
 
 // What a burst answered.
 fn burst_numbers(a: Answered) -> [u64; 6]
-    ensures { result ≡ burstNumbers (bursting a [] []) }
+    ensures { result ≡ burst_numbers (bursting a [] []) }
 {
     let device = a.device;
     let counters = device.counters;
@@ -76,7 +76,7 @@ fn burst_numbers(a: Answered) -> [u64; 6]
 
 // A step run, and a tick behind it.
 fn ran(device: Enet, memory: &mut [u8], output: &mut [u8], allowance: u32) -> [u64; 9]
-    ensures { runTold memory.new output.new result ≡ runThenTick device memory.old output.old allowance }
+    ensures { run_told memory.new output.new result ≡ run_then_tick device memory.old output.old allowance }
 {
     let r = device.run(memory, output, allowance);
     let next = r.device;
@@ -100,7 +100,7 @@ pub extern "C" fn counter_trial_run(
     allowance: u32,
     found: &mut [u64],
 )
-    ensures { runLeft memory.new output.new answers.new found.new ≡ runOn (playOn base window (made delivered lost sent count) memory.old output.old events.now answers.old) allowance found.old }
+    ensures { run_left memory.new output.new answers.new found.new ≡ run_on (play_on base window (made delivered lost sent count) memory.old output.old events.now answers.old) allowance found.old }
 {
     let counters = Counters {
         delivered,
@@ -131,7 +131,7 @@ pub extern "C" fn counter_trial_burst(
     list: &mut [u32],
     found: &mut [u64],
 )
-    ensures { burstLeft memory.new output.new answers.new list.new found.new ≡ burstOn (playOn base window (made delivered lost sent count) memory.old output.old events.now answers.old) store.now starts.now lengths.now list.old found.old }
+    ensures { burst_left memory.new output.new answers.new list.new found.new ≡ burst_on (play_on base window (made delivered lost sent count) memory.old output.old events.now answers.old) store.now starts.now lengths.now list.old found.old }
 {
     let counters = Counters {
         delivered,

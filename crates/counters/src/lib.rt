@@ -1,6 +1,6 @@
 // The counters of the device (02, Wish 9): frames delivered, lost and sent, and the count of its ticks.
 ghost use Rattle.std.specs.Prelude.{◌≡◌};
-ghost use Rattle.counters.specs.Counters.{reset, withTicks, oneMore, afterReceive, afterSend};
+ghost use Rattle.counters.specs.Counters.{reset, with_ticks, one_more, after_receive, after_send};
 
 // Frames delivered, lost and sent, and the ticks in a row at which a send was stalled.
 #[derive(Drop)]
@@ -13,7 +13,7 @@ pub struct Counters {
 
 // One event more; a counter that has reached the stop stays there.
 fn one_more(n: u32) -> u32
-    ensures { result ≡ oneMore n }
+    ensures { result ≡ one_more n }
 {
     if n < Counters::STOP {
         return n + 1;
@@ -39,7 +39,7 @@ impl Counters {
 
     // Another count of ticks.
     pub fn with_ticks(mut self, n: u32) -> Counters
-        ensures { result ≡ withTicks self n }
+        ensures { result ≡ with_ticks self n }
     {
         self.ticks = n;
         self
@@ -47,7 +47,7 @@ impl Counters {
 
     // After a receive, by its number.
     pub fn after_receive(mut self, number: u32) -> Counters
-        ensures { result ≡ afterReceive number self }
+        ensures { result ≡ after_receive number self }
     {
         if number == answer::DONE {
             let n = one_more(self.delivered);
@@ -64,7 +64,7 @@ impl Counters {
 
     // After a single send, by its number.
     pub fn after_send(mut self, number: u32) -> Counters
-        ensures { result ≡ afterSend number self }
+        ensures { result ≡ after_send number self }
     {
         if number == answer::DONE {
             let n = one_more(self.sent);

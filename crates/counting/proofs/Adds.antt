@@ -2,7 +2,7 @@
 use Prim.Native.Nat.{ℕ, ◌+◌}
 use mathlib.Core.Path.{◌≡◌, sym, ap, ◌∙◌}
 use Rattle.counters.specs.declared.Counters.{Counters}
-use Rattle.counting.proofs.More.{more, more-both}
+use Rattle.counting.proofs.More.{more, more_both}
 
 -- so many delivered, lost and sent
 pub record Adds (delivered lost sent : ℕ) (c e : Counters) : Type 0 where
@@ -16,9 +16,9 @@ unfolding more
 adds_none c e d l s = record { delivered' = d; lost' = l; sent' = s }
 
 -- what comes behind adds to it
-pub adds-both : {a b s a₂ b₂ s₂ : ℕ} {c e f : Counters} → Adds a b s c e → Adds a₂ b₂ s₂ e f → Adds (a + a₂) (b + b₂) (s + s₂) c f
-adds-both {a} {b} {s} {a₂} {b₂} {s₂} {c} {e} {f} p q = record {
-  delivered' = q.delivered' ∙ ap (more a₂) p.delivered' ∙ sym (more-both a a₂ c.delivered);
-  lost' = q.lost' ∙ ap (more b₂) p.lost' ∙ sym (more-both b b₂ c.lost);
-  sent' = q.sent' ∙ ap (more s₂) p.sent' ∙ sym (more-both s s₂ c.sent);
+pub adds_both : {a b s a₂ b₂ s₂ : ℕ} {c e f : Counters} → Adds a b s c e → Adds a₂ b₂ s₂ e f → Adds (a + a₂) (b + b₂) (s + s₂) c f
+adds_both {a} {b} {s} {a₂} {b₂} {s₂} {c} {e} {f} p q = record {
+  delivered' = q.delivered' ∙ ap (more a₂) p.delivered' ∙ sym (more_both a a₂ c.delivered);
+  lost' = q.lost' ∙ ap (more b₂) p.lost' ∙ sym (more_both b b₂ c.lost);
+  sent' = q.sent' ∙ ap (more s₂) p.sent' ∙ sym (more_both s s₂ c.sent);
 }

@@ -6,28 +6,28 @@ use mathlib.Core.List.{List, [], ◌∷◌}
 use lib.Dec.{eqb, ltb}
 use borrow.Author.Tests.{eq-eqb, eqb-true, eqb-false}
 use Rattle.rules.specs.Choice.{if◌then◌else◌}
-use Rattle.rules.proofs.Choices.{by-test, by_bool}
+use Rattle.rules.proofs.Choices.{by_test, by_bool}
 use Rattle.window.specs.Window.{lent}
-use Rattle.engine.specs.Engine.{notGranted}
+use Rattle.engine.specs.Engine.{not_granted}
 use Rattle.registers.specs.declared.Registers.{Registers}
 use Rattle.registers.specs.declared.Register.{Register}
 use Rattle.registers.specs.declared.Register.TheVariants.{Ier, Isr, RxStart, RxNext, TxStart, TxNext, TxTimeout, Mcr, Mah, Mal, Mcha, Mcla, Unmodelled}
-use Rattle.registers.specs.Access.{registerAt}
+use Rattle.registers.specs.Access.{register_at}
 use Rattle.writable.specs.Writable.{kept}
 use Rattle.register_write.specs.Write.{written}
-use Rattle.outcomes.specs.Outcomes.{txAdvanced}
+use Rattle.outcomes.specs.Outcomes.{tx_advanced}
 use Rattle.ticking.specs.Tick as plain
-use Rattle.ticking.specs.Tick.{stalled, afterWrite}
+use Rattle.ticking.specs.Tick.{stalled, after_write}
 use Rattle.enet.specs.declared.Enet.{Enet}
 use Rattle.enet.specs.Device.{new}
 use Rattle.enet.specs.Send.{send}
 use Rattle.enet.specs.Run.{Running, sends, run}
-use Rattle.enet.specs.Tick.{ofTicked, tick}
-use Rattle.enet.proofs.Ways.{by-grant, by-send}
-use Rattle.calls.specs.Calls.{Bench, Call, looks, registerWrite, grantCall, receiveCall, burstCall, sendCall, stepRun, tickCall, call}
+use Rattle.enet.specs.Tick.{of_ticked, tick}
+use Rattle.enet.proofs.Ways.{by_grant, by_send}
+use Rattle.calls.specs.Calls.{Bench, Call, looks, register_write, grant_call, receive_call, burst_call, send_call, step_run, tick_call, call}
 use Rattle.changes.specs.Parts.{ReceiveOnly}
-use Rattle.changes.proofs.Branches.{wrote, by-new, by-write}
-use Rattle.changes.proofs.Nowhere.{changes-nowhere-else}
+use Rattle.changes.proofs.Branches.{wrote, by_new, by_write}
+use Rattle.changes.proofs.Nowhere.{changes_nowhere_else}
 use Rattle.counting.specs.Events.{Lent, meets, next, after}
 use Rattle.counting.specs.Ticks.{OffIsZero}
 
@@ -40,36 +40,36 @@ record SameCount (d e : Enet) : Type 0 where
   value : e.registers.txtor ≡ d.registers.txtor
   count : e.counters.ticks ≡ d.counters.ticks
 
-same-off : (d e : Enet) → SameCount d e → Off d → Off e
-same-off d e s o z = s.count ∙ o (sym s.value ∙ z)
+same_off : (d e : Enet) → SameCount d e → Off d → Off e
+same_off d e s o z = s.count ∙ o (sym s.value ∙ z)
 
 -- ---- receiving leaves both
 
-receive-off : (d e : Enet) → ReceiveOnly d e → Off d → Off e
-receive-off d e r =
-    same-off d e (record { value = ap (λ (x : Enet). x.registers.txtor) r.others; count = ap (λ (x : Enet). x.counters.ticks) r.others })
+receive_off : (d e : Enet) → ReceiveOnly d e → Off d → Off e
+receive_off d e r =
+    same_off d e (record { value = ap (λ (x : Enet). x.registers.txtor) r.others; count = ap (λ (x : Enet). x.counters.ticks) r.others })
 
 -- ---- sending leaves the time-out, and the count or 0
 
-send-off : (d : Enet) (m out : List ℕ) → Off d → Off (send d m out).device
-unfolding txAdvanced notGranted
-send-off d m out o =
-    by-send (λ s. Off s.device) d m out o o o o
-    (by-test (λ e. Off d) d.registers.tx.polling d.registers.tx d.registers.tx (λ _. o) (λ _. o))
+send_off : (d : Enet) (m out : List ℕ) → Off d → Off (send d m out).device
+unfolding tx_advanced not_granted
+send_off d m out o =
+    by_send (λ s. Off s.device) d m out o o o o
+    (by_test (λ e. Off d) d.registers.tx.polling d.registers.tx d.registers.tx (λ _. o) (λ _. o))
     o (λ _ _ _. refl)
 
-sends-off : (left : ℕ) (d : Enet) (m out : List ℕ) → Off d → Off (sends left d m out).device
+sends_off : (left : ℕ) (d : Enet) (m out : List ℕ) → Off d → Off (sends left d m out).device
 unfolding sends
-sends-off zero d m out o = o
-sends-off (suc left) d m out o =
-    by-test (λ (r : Running). Off r.device) (eqb (send d m out).number 0) _ _
-    (λ _. sends-off left _ _ _ (send-off d m out o))
-    (λ _. send-off d m out o)
+sends_off zero d m out o = o
+sends_off (suc left) d m out o =
+    by_test (λ (r : Running). Off r.device) (eqb (send d m out).number 0) _ _
+    (λ _. sends_off left _ _ _ (send_off d m out o))
+    (λ _. send_off d m out o)
 
-run-off : (d : Enet) (m out : List ℕ) (allowance : ℕ) → Off d → Off (run d m out allowance).device
+run_off : (d : Enet) (m out : List ℕ) (allowance : ℕ) → Off d → Off (run d m out allowance).device
 unfolding run
-run-off d m out allowance o =
-    by-test (λ (r : Running). Off r.device) (ltb 4096 allowance) _ _ (λ _. o) (λ _. sends-off allowance d m out o)
+run_off d m out allowance o =
+    by_test (λ (r : Running). Off r.device) (ltb 4096 allowance) _ _ (λ _. o) (λ _. sends_off allowance d m out o)
 
 -- ---- a register write
 
@@ -89,8 +89,8 @@ other Mcha = true
 other Mcla = true
 other Unmodelled = true
 
-other_at : (offset : ℕ) → eqb offset 0x48 ≡ false → other (registerAt offset) ≡ true
-unfolding registerAt
+other_at : (offset : ℕ) → eqb offset 0x48 ≡ false → other (register_at offset) ≡ true
+unfolding register_at
 other_at offset h =
     rw h (
     go (eqb offset 0x04) Ier _ refl (
@@ -110,68 +110,68 @@ other_at offset h =
     go false r s p q = q
 
 -- its write leaves the time-out
-other-written : (a : Register) (r : Registers) (v : ℕ) → other a ≡ true → (written r a v).txtor ≡ r.txtor
-other-written Ier r v h = refl
-other-written Isr r v h = refl
-other-written RxStart r v h = refl
-other-written RxNext r v h = refl
-other-written TxStart r v h = refl
-other-written TxNext r v h = refl
-other-written TxTimeout r v h = absurd (false≢true h)
-other-written Mcr r v h = refl
-other-written Mah r v h = refl
-other-written Mal r v h = refl
-other-written Mcha r v h = refl
-other-written Mcla r v h = refl
-other-written Unmodelled r v h = refl
+other_written : (a : Register) (r : Registers) (v : ℕ) → other a ≡ true → (written r a v).txtor ≡ r.txtor
+other_written Ier r v h = refl
+other_written Isr r v h = refl
+other_written RxStart r v h = refl
+other_written RxNext r v h = refl
+other_written TxStart r v h = refl
+other_written TxNext r v h = refl
+other_written TxTimeout r v h = absurd (false≢true h)
+other_written Mcr r v h = refl
+other_written Mah r v h = refl
+other_written Mal r v h = refl
+other_written Mcha r v h = refl
+other_written Mcla r v h = refl
+other_written Unmodelled r v h = refl
 
-elsewhere-off : (d : Enet) (offset v : ℕ) → eqb offset 0x48 ≡ false → Off d → Off (wrote d offset (written d.registers (registerAt offset) v))
-unfolding afterWrite
-elsewhere-off d offset v h o z = rw h (o (sym (other-written (registerAt offset) d.registers v (other_at offset h)) ∙ z))
+elsewhere_off : (d : Enet) (offset v : ℕ) → eqb offset 0x48 ≡ false → Off d → Off (wrote d offset (written d.registers (register_at offset) v))
+unfolding after_write
+elsewhere_off d offset v h o z = rw h (o (sym (other_written (register_at offset) d.registers v (other_at offset h)) ∙ z))
 
-timeout-off : (d : Enet) (offset v : ℕ) → offset ≡ 0x48 → Off (wrote d offset (written d.registers (registerAt offset) v))
-unfolding registerAt afterWrite
-timeout-off d offset v h = rw h (λ z. rw (eq-eqb (kept TxTimeout v) 0 z))
+timeout_off : (d : Enet) (offset v : ℕ) → offset ≡ 0x48 → Off (wrote d offset (written d.registers (register_at offset) v))
+unfolding register_at after_write
+timeout_off d offset v h = rw h (λ z. rw (eq-eqb (kept TxTimeout v) 0 z))
 
-write-off : (b : Bench) (offset value : ℕ) → Off b.device → Off (call b (registerWrite offset value)).bench.device
-write-off b offset value o =
-    by-write (λ a. Off a.device) b.device value o o offset
+write_off : (b : Bench) (offset value : ℕ) → Off b.device → Off (call b (register_write offset value)).bench.device
+write_off b offset value o =
+    by_write (λ a. Off a.device) b.device value o o offset
     (by_bool (eqb offset 0x48)
-    (λ h. timeout-off b.device offset value (eqb-true offset 0x48 h))
-    (λ h. elsewhere-off b.device offset value h o))
+    (λ h. timeout_off b.device offset value (eqb-true offset 0x48 h))
+    (λ h. elsewhere_off b.device offset value h o))
 
 -- ---- a tick
 
-tick-off : (d : Enet) (m : List ℕ) → Off d → Off (tick d m).device
+tick_off : (d : Enet) (m : List ℕ) → Off d → Off (tick d m).device
 unfolding tick plain.tick plain.counted
-tick-off d m o =
-    by-test (λ t. Off (ofTicked d t).device) (not (lent d.window m)) _ _ (λ _. o) (λ _.
-    by-test (λ t. Off (ofTicked d t).device) (eqb d.registers.txtor 0) _ _ (λ _ _. refl) (λ n.
-    by-test (λ t. Off (ofTicked d t).device) (stalled d.base d.window d.registers m) _ _
-    (λ _. by-test (λ t. Off (ofTicked d t).device) (ltb d.registers.txtor (d.counters.ticks + 1)) _ _
+tick_off d m o =
+    by_test (λ t. Off (of_ticked d t).device) (not (lent d.window m)) _ _ (λ _. o) (λ _.
+    by_test (λ t. Off (of_ticked d t).device) (eqb d.registers.txtor 0) _ _ (λ _ _. refl) (λ n.
+    by_test (λ t. Off (of_ticked d t).device) (stalled d.base d.window d.registers m) _ _
+    (λ _. by_test (λ t. Off (of_ticked d t).device) (ltb d.registers.txtor (d.counters.ticks + 1)) _ _
     (λ _ _. refl)
     (λ _ z. absurd (eqb-false d.registers.txtor 0 n z)))
     (λ _ _. refl)))
 
 -- ---- every call, and every list of calls
 
-call-off : (b : Bench) (c : Call) → Off b.device → Off (call b c).bench.device
-call-off b (looks look) o = o
-call-off b (registerWrite offset value) o = write-off b offset value o
-call-off b (grantCall address) o =
-    by-grant (λ x. Off x.device) b.device b.memory address o o o o
-call-off b (receiveCall frame) o = receive-off b.device _ (changes-nowhere-else.calls b (receiveCall frame)).device o
-call-off b (burstCall store starts lengths answers) o =
-    receive-off b.device _ (changes-nowhere-else.calls b (burstCall store starts lengths answers)).device o
-call-off b (sendCall output) o = send-off b.device b.memory output o
-call-off b (stepRun output allowance) o = run-off b.device b.memory output allowance o
-call-off b tickCall o = tick-off b.device b.memory o
+call_off : (b : Bench) (c : Call) → Off b.device → Off (call b c).bench.device
+call_off b (looks look) o = o
+call_off b (register_write offset value) o = write_off b offset value o
+call_off b (grant_call address) o =
+    by_grant (λ x. Off x.device) b.device b.memory address o o o o
+call_off b (receive_call frame) o = receive_off b.device _ (changes_nowhere_else.calls b (receive_call frame)).device o
+call_off b (burst_call store starts lengths answers) o =
+    receive_off b.device _ (changes_nowhere_else.calls b (burst_call store starts lengths answers)).device o
+call_off b (send_call output) o = send_off b.device b.memory output o
+call_off b (step_run output allowance) o = run_off b.device b.memory output allowance o
+call_off b tick_call o = tick_off b.device b.memory o
 
-calls-off : (calls : List Lent) (d : Enet) → Off d → Off (after d calls)
+calls_off : (calls : List Lent) (d : Enet) → Off d → Off (after d calls)
 unfolding after
-calls-off [] d o = o
-calls-off (l ∷ ls) d o = calls-off ls (next d l) (call-off (meets d l) l.call o)
+calls_off [] d o = o
+calls_off (l ∷ ls) d o = calls_off ls (next d l) (call_off (meets d l) l.call o)
 
-pub off-is-zero : OffIsZero
-off-is-zero base window calls =
-    calls-off calls (new base window).device (by-new (λ a. Off a.device) base window (λ _. refl) (λ _. refl))
+pub off_is_zero : OffIsZero
+off_is_zero base window calls =
+    calls_off calls (new base window).device (by_new (λ a. Off a.device) base window (λ _. refl) (λ _. refl))

@@ -8,23 +8,23 @@ use Rattle.counters.specs.Counters.{reset}
 use Rattle.enet.specs.declared.Enet.{Enet}
 use Rattle.enet.specs.Device.{new}
 use Rattle.calls.specs.Calls.{Bench, Call}
-use Rattle.changes.proofs.Branches.{by-new}
-use Rattle.counting.specs.Events.{Lent, meets, next, after, total, deliveredIn, lostIn, sentIn}
+use Rattle.changes.proofs.Branches.{by_new}
+use Rattle.counting.specs.Events.{Lent, meets, next, after, total, delivered_in, lost_in, sent_in}
 use Rattle.counting.specs.Counted.{up_to, Counted, EventsCounted}
-use Rattle.counting.proofs.More.{more, more-since, more_stays, not_stopped}
-use Rattle.counting.proofs.Adds.{Adds, adds_none, adds-both}
-use Rattle.counting.proofs.Calls.{call-adds}
+use Rattle.counting.proofs.More.{more, more_since, more_stays, not_stopped}
+use Rattle.counting.proofs.Adds.{Adds, adds_none, adds_both}
+use Rattle.counting.proofs.Calls.{call_adds}
 
 -- all calls of a history
-calls-add : (calls : List Lent) (d : Enet)
-    → Adds (total deliveredIn d calls) (total lostIn d calls) (total sentIn d calls) d.counters (after d calls).counters
+calls_add : (calls : List Lent) (d : Enet)
+    → Adds (total delivered_in d calls) (total lost_in d calls) (total sent_in d calls) d.counters (after d calls).counters
 unfolding after total
-calls-add [] d = adds_none _ _ refl refl refl
-calls-add (l ∷ ls) d = adds-both (call-adds (meets d l) l.call) (calls-add ls (next d l))
+calls_add [] d = adds_none _ _ refl refl refl
+calls_add (l ∷ ls) d = adds_both (call_adds (meets d l) l.call) (calls_add ls (next d l))
 
 -- "The reset state has all four at 0."
-pub new-counters : (base window : ℕ) → (new base window).device.counters ≡ reset
-new-counters base window = by-new (λ a. a.device.counters ≡ reset) base window refl refl
+pub new_counters : (base window : ℕ) → (new base window).device.counters ≡ reset
+new_counters base window = by_new (λ a. a.device.counters ≡ reset) base window refl refl
 
 module _ (counter : Counters → ℕ) (events : Bench → Call → ℕ)
     (adds : (calls : List Lent) (d : Enet) → counter (after d calls).counters ≡ more (total events d calls) (counter d.counters))
@@ -34,8 +34,8 @@ module _ (counter : Counters → ℕ) (events : Bench → Call → ℕ)
   exact base window calls =
       let d = (new base window).device in
       adds calls d
-      ∙ ap (more (total events d calls)) (ap counter (new-counters base window) ∙ zero)
-      ∙ more-since (total events d calls)
+      ∙ ap (more (total events d calls)) (ap counter (new_counters base window) ∙ zero)
+      ∙ more_since (total events d calls)
 
   counted : Counted counter events
   counted = record {
@@ -46,9 +46,9 @@ module _ (counter : Counters → ℕ) (events : Bench → Call → ℕ)
     stays = λ d calls e. adds calls d ∙ more_stays (total events d calls) (counter d.counters) e;
   }
 
-pub events-counted : EventsCounted
-events-counted = record {
-  delivered = counted (λ c. c.delivered) deliveredIn (λ calls d. (calls-add calls d).delivered') refl;
-  lost = counted (λ c. c.lost) lostIn (λ calls d. (calls-add calls d).lost') refl;
-  sent = counted (λ c. c.sent) sentIn (λ calls d. (calls-add calls d).sent') refl;
+pub events_counted : EventsCounted
+events_counted = record {
+  delivered = counted (λ c. c.delivered) delivered_in (λ calls d. (calls_add calls d).delivered') refl;
+  lost = counted (λ c. c.lost) lost_in (λ calls d. (calls_add calls d).lost') refl;
+  sent = counted (λ c. c.sent) sent_in (λ calls d. (calls_add calls d).sent') refl;
 }

@@ -8,25 +8,25 @@ use native.Mathlib.Omega.{arith}
 use native.Mathlib.Numerals.{add-one}
 use borrow.Author.Tests.{ne_eqb, lt-ltb, le-ltb}
 use Rattle.window.specs.Window.{lent}
-use Rattle.registers.specs.Registers.{txTo}
+use Rattle.registers.specs.Registers.{tx_to}
 use Rattle.ticking.specs.Tick as plain
 use Rattle.ticking.specs.Tick.{stalled, counted}
 use Rattle.enet.specs.declared.Enet.{Enet}
-use Rattle.enet.specs.Device.{raised, withTicks}
+use Rattle.enet.specs.Device.{raised, with_ticks}
 use Rattle.enet.specs.Tick.{tick}
-use Rattle.calls.specs.Calls.{Bench, tickCall, call}
+use Rattle.calls.specs.Calls.{Bench, tick_call, call}
 use Rattle.counting.specs.Ticks.{ticks, Stalls, FiresBehind}
 
 module _ (d : Enet) (m : List ℕ) (whole : lent d.window m ≡ true) (set : d.registers.txtor ≢ 0)
     (stands : stalled d.base d.window d.registers m ≡ true) where
   abbrev at : ℕ → Bench
-  at k = record { device = withTicks d k; memory = m }
+  at k = record { device = with_ticks d k; memory = m }
 
-  counts-on : (k : ℕ) → k < d.registers.txtor → (call (at k) tickCall).bench ≡ at (suc k)
+  counts_on : (k : ℕ) → k < d.registers.txtor → (call (at k) tick_call).bench ≡ at (suc k)
   unfolding tick plain.tick counted
-  counts-on k h = rw (whole, ne_eqb d.registers.txtor 0 set, stands, le-ltb d.registers.txtor (k + 1) (omega arith), add-one k)
+  counts_on k h = rw (whole, ne_eqb d.registers.txtor 0 set, stands, le-ltb d.registers.txtor (k + 1) (omega arith), add-one k)
 
-  passes : (call (at d.registers.txtor) tickCall).bench ≡ record { device = withTicks (raised d txTo) 0; memory = m }
+  passes : (call (at d.registers.txtor) tick_call).bench ≡ record { device = with_ticks (raised d tx_to) 0; memory = m }
   unfolding tick plain.tick counted
   passes = rw (whole, ne_eqb d.registers.txtor 0 set, stands, lt-ltb d.registers.txtor (d.registers.txtor + 1) (omega arith))
 
@@ -36,36 +36,36 @@ module _ (d : Enet) (m : List ℕ) (whole : lent d.window m ≡ true) (set : d.r
   on zero j h = let e : j ≡ j + 0 = omega arith in ap at e
   on (suc k) j h =
       let e : suc j + k ≡ j + suc k = omega arith in
-      ap (ticks k) (counts-on j (omega arith)) ∙ on k (suc j) (omega arith) ∙ ap at e
+      ap (ticks k) (counts_on j (omega arith)) ∙ on k (suc j) (omega arith) ∙ ap at e
 
   -- and one more
-  ticks-last : (k : ℕ) (b : Bench) → ticks (suc k) b ≡ (call (ticks k b) tickCall).bench
+  ticks_last : (k : ℕ) (b : Bench) → ticks (suc k) b ≡ (call (ticks k b) tick_call).bench
   unfolding ticks
-  ticks-last zero b = refl
-  ticks-last (suc k) b = ticks-last k (call b tickCall).bench
+  ticks_last zero b = refl
+  ticks_last (suc k) b = ticks_last k (call b tick_call).bench
 
-  fired : ticks (suc d.registers.txtor) (at 0) ≡ record { device = withTicks (raised d txTo) 0; memory = m }
+  fired : ticks (suc d.registers.txtor) (at 0) ≡ record { device = with_ticks (raised d tx_to) 0; memory = m }
   fired =
       let v = d.registers.txtor in
-      ticks-last v (at 0)
-      ∙ ap (λ b. (call b tickCall).bench) (on v 0 (omega arith))
-      ∙ ap (λ k. (call (at k) tickCall).bench) (add-zero-left v)
+      ticks_last v (at 0)
+      ∙ ap (λ b. (call b tick_call).bench) (on v 0 (omega arith))
+      ∙ ap (λ k. (call (at k) tick_call).bench) (add_zero_left v)
       ∙ passes
     where
-      add-zero-left : (v : ℕ) → 0 + v ≡ v
-      add-zero-left v = omega arith
+      add_zero_left : (v : ℕ) → 0 + v ≡ v
+      add_zero_left v = omega arith
 
 -- a bench that stalls, with its count written out
-start : (b : Bench) → Stalls b → b ≡ record { device = withTicks b.device 0; memory = b.memory }
-start b s = ap (λ k. record { device = withTicks b.device k; memory = b.memory }) s.fresh
+start : (b : Bench) → Stalls b → b ≡ record { device = with_ticks b.device 0; memory = b.memory }
+start b s = ap (λ k. record { device = with_ticks b.device k; memory = b.memory }) s.fresh
 
-pub fires-behind : FiresBehind
-fires-behind = record {
+pub fires_behind : FiresBehind
+fires_behind = record {
   counts = λ b s k h.
       let e : 0 + k ≡ k = omega arith in
       ap (ticks k) (start b s)
       ∙ on b.device b.memory s.whole s.set s.stands k 0 (omega arith)
-      ∙ ap (λ n. record { device = withTicks b.device n; memory = b.memory }) e;
+      ∙ ap (λ n. record { device = with_ticks b.device n; memory = b.memory }) e;
   fires = λ b s.
       ap (ticks (suc b.device.registers.txtor)) (start b s) ∙ fired b.device b.memory s.whole s.set s.stands;
 }

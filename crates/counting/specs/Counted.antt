@@ -6,7 +6,7 @@ use Rattle.counters.specs.Counters.{stop}
 use Rattle.enet.specs.declared.Enet.{Enet}
 use Rattle.enet.specs.Device.{new}
 use Rattle.calls.specs.Calls.{Bench, Call}
-use Rattle.counting.specs.Events.{Lent, after, total, deliveredIn, lostIn, sentIn}
+use Rattle.counting.specs.Events.{Lent, after, total, delivered_in, lost_in, sent_in}
 
 -- so many events, "stopping at 4,294,967,295"
 unfoldable pub up_to : ℕ → ℕ
@@ -26,6 +26,6 @@ pub record Counted (counter : Counters → ℕ) (events : Bench → Call → ℕ
   pub stays : (d : Enet) (calls : List Lent) → counter d.counters ≡ stop → counter (after d calls).counters ≡ stop
 
 pub record EventsCounted : Type 0 where
-  pub delivered : Counted (λ c. c.delivered) deliveredIn
-  pub lost : Counted (λ c. c.lost) lostIn
-  pub sent : Counted (λ c. c.sent) sentIn
+  pub delivered : Counted (λ c. c.delivered) delivered_in
+  pub lost : Counted (λ c. c.lost) lost_in
+  pub sent : Counted (λ c. c.sent) sent_in

@@ -2,7 +2,7 @@
 use Rattle.std.specs.Prelude.{ℕ, zero, suc, ◌+◌, List, [], ◌∷◌, eqb}
 use Rattle.rules.specs.Choice.{if◌then◌else◌}
 use Rattle.enet.specs.declared.Enet.{Enet}
-use Rattle.calls.specs.Calls.{Bench, Call, looks, registerWrite, grantCall, receiveCall, burstCall, sendCall, stepRun, tickCall, call}
+use Rattle.calls.specs.Calls.{Bench, Call, looks, register_write, grant_call, receive_call, burst_call, send_call, step_run, tick_call, call}
 use Rattle.outputs.specs.Runs.{Stand, begins, single, further}
 
 -- ---- a history
@@ -34,31 +34,31 @@ times n (x ∷ xs) = if eqb x n then 1 + times n xs else times n xs
 
 -- 01: "It is delivered if its receive answers 0, and lost if it answers 8." The answers of a call's receives, those of a burst too,
 -- stand in its result
-abbrev pub deliveredIn : Bench → Call → ℕ
-deliveredIn b c = times 0 (call b c).answers
+abbrev pub delivered_in : Bench → Call → ℕ
+delivered_in b c = times 0 (call b c).answers
 
-abbrev pub lostIn : Bench → Call → ℕ
-lostIn b c = times 8 (call b c).answers
+abbrev pub lost_in : Bench → Call → ℕ
+lost_in b c = times 8 (call b c).answers
 
 -- what the next k single sends of a run answer
-unfoldable pub sendAnswers : ℕ → Stand → List ℕ
-sendAnswers zero s = []
-sendAnswers (suc k) s = (single s).number ∷ sendAnswers k (further s)
+unfoldable pub send_answers : ℕ → Stand → List ℕ
+send_answers zero s = []
+send_answers (suc k) s = (single s).number ∷ send_answers k (further s)
 
 -- the answers of a call's single sends: of a step run, those of the steps that it makes
-abbrev pub sendsOf : Bench → Call → List ℕ
-sendsOf b (looks look) = []
-sendsOf b (registerWrite offset value) = []
-sendsOf b (grantCall address) = []
-sendsOf b (receiveCall frame) = []
-sendsOf b (burstCall store starts lengths answers) = []
-sendsOf b (sendCall output) = (call b (sendCall output)).number ∷ []
-sendsOf b (stepRun output allowance) = sendAnswers (call b (stepRun output allowance)).steps (begins b output)
-sendsOf b tickCall = []
+abbrev pub sends_of : Bench → Call → List ℕ
+sends_of b (looks look) = []
+sends_of b (register_write offset value) = []
+sends_of b (grant_call address) = []
+sends_of b (receive_call frame) = []
+sends_of b (burst_call store starts lengths answers) = []
+sends_of b (send_call output) = (call b (send_call output)).number ∷ []
+sends_of b (step_run output allowance) = send_answers (call b (step_run output allowance)).steps (begins b output)
+sends_of b tick_call = []
 
 -- a single send sent its frame if it answers 0
-abbrev pub sentIn : Bench → Call → ℕ
-sentIn b c = times 0 (sendsOf b c)
+abbrev pub sent_in : Bench → Call → ℕ
+sent_in b c = times 0 (sends_of b c)
 
 -- ---- the events of a history
 

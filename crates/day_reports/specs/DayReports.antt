@@ -18,16 +18,16 @@ unfoldable pub counted : List ℕ → ℕ → ℕ → List ℕ
 counted name a b = name ++ number a ++ number b ++ newline
 
 -- "or `refused N BLOCK` alone, or `refused N` where the reason is no block's": those of a block are 17 to 22
-unfoldable pub refusalSays : ℕ → ℕ → List ℕ
-refusalSays n block =
+unfoldable pub refusal_says : ℕ → ℕ → List ℕ
+refusal_says n block =
     if leb n 22 then counted (characters "refused") n block else numbered (characters "refused") n
 
 -- "a line for each event as the console does (`write N`, `grant N`, `frame N`, `send N BYTES`)", with the answer and the bytes sent
-unfoldable pub eventSays : Found → ℕ → List ℕ → List ℕ
-eventSays (RegisterWrite offset v) n sent = numbered (characters "write") n
-eventSays (Grant address) n sent = numbered (characters "grant") n
-eventSays (Frame start k) n sent = numbered (characters "frame") n
-eventSays Send n sent = shown (characters "send") n sent
--- these are no events, and have no line: a trace that is read has none of them (`all-events` in `day_steps`)
-eventSays Cut n sent = []
-eventSays NoEvent n sent = []
+unfoldable pub event_says : Found → ℕ → List ℕ → List ℕ
+event_says (RegisterWrite offset v) n sent = numbered (characters "write") n
+event_says (Grant address) n sent = numbered (characters "grant") n
+event_says (Frame start k) n sent = numbered (characters "frame") n
+event_says Send n sent = shown (characters "send") n sent
+-- these are no events, and have no line: a trace that is read has none of them (`all_events` in `day_steps`)
+event_says Cut n sent = []
+event_says NoEvent n sent = []

@@ -1,7 +1,7 @@
 // The lines that tell of a recorded day (docs/TRACE.md).
 ghost use Rattle.std.specs.Prelude.{◌≡◌};
 ghost use Rattle.text.specs.Text.{written, put};
-ghost use Rattle.day_reports.specs.DayReports.{placed, counted, refusalSays, eventSays};
+ghost use Rattle.day_reports.specs.DayReports.{placed, counted, refusal_says, event_says};
 
 use event::Found;
 
@@ -27,7 +27,7 @@ pub fn counted(text: &mut [u8], at: usize, name: &[u8], a: u64, b: u64) -> usize
 
 // A refusal: with its block where the reason is a block's.
 pub fn refused(text: &mut [u8], at: usize, number: u32, block: u64) -> usize
-    ensures { written result text.new ≡ put text.old at (refusalSays number block) }
+    ensures { written result text.new ≡ put text.old at (refusal_says number block) }
 {
     if number <= answer::EVENT {
         return counted(text, at, b"refused", number as u64, block);
@@ -37,7 +37,7 @@ pub fn refused(text: &mut [u8], at: usize, number: u32, block: u64) -> usize
 
 // What an event answered, and the bytes that it sent.
 pub fn event(text: &mut [u8], at: usize, found: Found, number: u32, sent: &[u8]) -> usize
-    ensures { written result text.new ≡ put text.old at (eventSays found number sent.now) }
+    ensures { written result text.new ≡ put text.old at (event_says found number sent.now) }
 {
     match found {
         Found::RegisterWrite(_, _) => replies::numbered(text, at, b"write", number as u64),

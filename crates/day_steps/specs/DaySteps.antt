@@ -3,7 +3,7 @@
 use Rattle.std.specs.Prelude.{ℕ, ◌≡◌, List, [], ◌∷◌, ◌++◌}
 use Rattle.event.specs.Event.{Event}
 use Rattle.calls.specs.Calls.{Bench}
-use Rattle.steps.specs.Steps.{Step, publicCall, step, Progress, afterSteps}
+use Rattle.steps.specs.Steps.{Step, public_call, step, Progress, after_steps}
 use Rattle.playback.specs.Playing.{call_of, act, play}
 
 -- the events as steps: each is lent the output that the one before it left
@@ -11,17 +11,17 @@ unfoldable pub steps_of : Bench → List ℕ → List Event → List Step
 steps_of b output [] = []
 steps_of b output (e ∷ es) =
     let a = act b output e in
-    publicCall (call_of output e) ∷ steps_of a.bench a.output es
+    public_call (call_of output e) ∷ steps_of a.bench a.output es
 
 -- the numbers that a list of steps answers, one behind the other
-unfoldable pub numbersOf : Bench → List Step → List ℕ
-numbersOf b [] = []
-numbersOf b (s ∷ steps) = (step b s).number ∷ numbersOf (step b s).bench steps
+unfoldable pub numbers_of : Bench → List Step → List ℕ
+numbers_of b [] = []
+numbers_of b (s ∷ steps) = (step b s).number ∷ numbers_of (step b s).bench steps
 
 -- a day and its steps leave the same bench and give the same numbers, whatever was done before
 pub record Same (p : Progress) (output : List ℕ) (es : List Event) : Type 0 where
-  pub bench : (afterSteps p (steps_of p.bench output es)).bench ≡ (play p.bench output es).bench
-  pub answers : numbersOf p.bench (steps_of p.bench output es) ≡ (play p.bench output es).answers
+  pub bench : (after_steps p (steps_of p.bench output es)).bench ≡ (play p.bench output es).bench
+  pub answers : numbers_of p.bench (steps_of p.bench output es) ≡ (play p.bench output es).answers
 
 abbrev pub DaysAreSteps : Type 0
 DaysAreSteps = (p : Progress) (output : List ℕ) (es : List Event) → Same p output es

@@ -4,11 +4,11 @@ use Rattle.std.specs.Prelude.{ℕ, ◌≡◌, List, ◌∷◌, ◌++◌, length,
 use Rattle.event.specs.Event.{Event}
 use Rattle.event.specs.Walk.{walk}
 use Rattle.event.specs.declared.Ending.TheVariants.{Whole}
-use Rattle.stream.specs.Stream.{eventBytes}
+use Rattle.stream.specs.Stream.{event_bytes}
 use Rattle.trace.specs.Reading.{look}
 use Rattle.enet.specs.Device.{new}
 use Rattle.calls.specs.Calls.{Bench}
-use Rattle.playback.specs.Playing.{Played, benchOf, act, play}
+use Rattle.playback.specs.Playing.{Played, bench_of, act, play}
 use Rattle.replaying.specs.Replay.{Replaying, replay}
 
 -- ---- a trace that is read
@@ -22,17 +22,17 @@ BenchIsNew =
 
 -- docs/TRACE.md: "each event is a call". There is nothing else in it: its bytes are events to the last
 abbrev pub AllEvents : Type 0
-AllEvents = (t : List ℕ) (room : ℕ) → (look t room).number ≡ 0 → (walk (eventBytes t)).ending ≡ Whole
+AllEvents = (t : List ℕ) (room : ℕ) → (look t room).number ≡ 0 → (walk (event_bytes t)).ending ≡ Whole
 
 -- ---- the direct calls
 
 -- the bench of its window, with the lent memory
-abbrev pub benchFor : List ℕ → ℕ → List ℕ → Bench
-benchFor t room memory = benchOf (new (look t room).base (look t room).window).device memory
+abbrev pub bench_for : List ℕ → ℕ → List ℕ → Bench
+bench_for t room memory = bench_of (new (look t room).base (look t room).window).device memory
 
 -- its events on that bench, one behind the other
 abbrev pub direct : List ℕ → ℕ → List ℕ → List ℕ → Played
-direct t room memory output = play (benchFor t room memory) output (walk (eventBytes t)).events
+direct t room memory output = play (bench_for t room memory) output (walk (event_bytes t)).events
 
 -- a replay gives what they give; a is the answer list that it was lent
 pub record SameAs (d : Played) (r : Replaying) (a : List ℕ) : Type 0 where
@@ -59,6 +59,6 @@ InPlace =
     → let r = replay t room memory output answers in
     r.replayed.number ≡ 0
     → (ds : List Event) (e : Event) (es : List Event)
-    → (walk (eventBytes t)).events ≡ ds ++ e ∷ es
-    → let before = play (benchFor t (length room) memory) output ds in
+    → (walk (event_bytes t)).events ≡ ds ++ e ∷ es
+    → let before = play (bench_for t (length room) memory) output ds in
     get_or r.answers (length ds) 0 ≡ (act before.bench before.output e).number

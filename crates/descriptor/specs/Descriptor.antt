@@ -13,18 +13,18 @@ unfoldable pub count : ℕ → List ℕ → ℕ → ℕ
 count base m d = word m (offset base d) % 4096
 
 -- ".. and the next-enable bit", NXT_EN, bit 14
-unfoldable pub nextEnabled : ℕ → List ℕ → ℕ → Bool
-nextEnabled base m d = bit 14 (word m (offset base d))
+unfoldable pub next_enabled : ℕ → List ℕ → ℕ → Bool
+next_enabled base m d = bit 14 (word m (offset base d))
 
 -- the start address word, whole: a set low bit is a buffer fault
 unfoldable pub start : ℕ → List ℕ → ℕ → ℕ
 start base m d = word m (offset base d + 4)
 
 -- the next descriptor word, whole
-unfoldable pub nextWord : ℕ → List ℕ → ℕ → ℕ
-nextWord base m d = word m (offset base d + 8)
+unfoldable pub next_word : ℕ → List ℕ → ℕ → ℕ
+next_word base m d = word m (offset base d + 8)
 
 -- the place of the next descriptor: "The low bits of the next word are ignored." Amended by 02, Wish 5: "RM0006 has a next-polling
 -- enable in the next word's low bits, unread so far", which is read apart (`polls`); of the place they are no part
 unfoldable pub next : ℕ → List ℕ → ℕ → ℕ
-next base m d = place_of (nextWord base m d)
+next base m d = place_of (next_word base m d)

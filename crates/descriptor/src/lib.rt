@@ -2,7 +2,7 @@
 // a byte past the end of the lent memory reads 0, and an address below the base counts as the base.
 ghost use Rattle.std.specs.Prelude.{◌≡◌};
 ghost use Rattle.address.specs.Address.{aligned};
-ghost use Rattle.descriptor.specs.Descriptor.{count, nextEnabled, start, nextWord, next};
+ghost use Rattle.descriptor.specs.Descriptor.{count, next_enabled, start, next_word, next};
 
 // The transfer count of the descriptor at an address.
 pub fn count(base: u32, m: &[u8], d: u32) -> u32
@@ -13,7 +13,7 @@ pub fn count(base: u32, m: &[u8], d: u32) -> u32
 
 // Its next-enable bit.
 pub fn next_enabled(base: u32, m: &[u8], d: u32) -> bool
-    ensures { result ≡ nextEnabled base m.now d }
+    ensures { result ≡ next_enabled base m.now d }
 {
     memory::word(m, window::offset(base, d)) / 0x4000 % 2 == 1
 }
@@ -34,7 +34,7 @@ pub fn start_aligned(base: u32, m: &[u8], d: u32) -> bool
 
 // Its next descriptor word.
 pub fn next_word(base: u32, m: &[u8], d: u32) -> u32
-    ensures { result ≡ nextWord base m.now d }
+    ensures { result ≡ next_word base m.now d }
 {
     memory::word(m, window::offset(base, d) + 8)
 }

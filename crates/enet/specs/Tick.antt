@@ -4,11 +4,11 @@ use Rattle.ticking.specs.declared.Ticked.{Ticked}
 use Rattle.ticking.specs.Tick as plain
 use Rattle.enet.specs.declared.Enet.{Enet}
 use Rattle.enet.specs.declared.Answered.{Answered}
-use Rattle.enet.specs.Device.{withRegisters, withTicks}
+use Rattle.enet.specs.Device.{with_registers, with_ticks}
 
 -- a tick leaves the window's base and length and the counters of frames as they are
-abbrev pub ofTicked : Enet → Ticked → Answered
-ofTicked d t = record { number = t.number; device = withTicks (withRegisters d t.registers) t.count }
+abbrev pub of_ticked : Enet → Ticked → Answered
+of_ticked d t = record { number = t.number; device = with_ticks (with_registers d t.registers) t.count }
 
 unfoldable pub tick : Enet → List ℕ → Answered
-tick d m = ofTicked d (plain.tick d.base d.window d.registers d.counters.ticks m)
+tick d m = of_ticked d (plain.tick d.base d.window d.registers d.counters.ticks m)

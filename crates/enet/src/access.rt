@@ -1,6 +1,6 @@
 // Register accesses and the interrupt line.
 ghost use Rattle.std.specs.Prelude.{◌≡◌};
-ghost use Rattle.enet.specs.Access.{read, write, interruptLine};
+ghost use Rattle.enet.specs.Access.{read, write, interrupt_line};
 
 use crate::{Answered, Enet, Value};
 
@@ -34,7 +34,7 @@ impl Enet {
 
     // The interrupt line is high.
     pub fn interrupt_line(self) -> bool
-        ensures { result ≡ interruptLine self }
+        ensures { result ≡ interrupt_line self }
     {
         let registers = self.registers;
         registers.interrupt_line()

@@ -12,41 +12,41 @@ abbrev pub made : ℕ → ℕ → Bool → ℕ → Bool → Engine
 made start next running place polling =
     record { start = start; next = next; running = running; place = place; polling = polling }
 
-abbrev pub withStart : Engine → ℕ → Engine
-withStart e v = made v e.next e.running e.place e.polling
+abbrev pub with_start : Engine → ℕ → Engine
+with_start e v = made v e.next e.running e.place e.polling
 
 abbrev pub with_next : Engine → ℕ → Engine
 with_next e v = made e.start v e.running e.place e.polling
 
-abbrev pub withRunning : Engine → Bool → Engine
-withRunning e t = made e.start e.next t e.place e.polling
+abbrev pub with_running : Engine → Bool → Engine
+with_running e t = made e.start e.next t e.place e.polling
 
 -- another place, and whether polling is enabled for it
-abbrev pub withPlace : Engine → ℕ → Bool → Engine
-withPlace e p t = made e.start e.next e.running p t
+abbrev pub with_place : Engine → ℕ → Bool → Engine
+with_place e p t = made e.start e.next e.running p t
 
 -- the place that a word leads to: of the next-descriptor register at a start, of the descriptor at a move ("With next-enable
 -- the engine moves to the next address"). 02, Wish 5: "The bit of the word, of register or descriptor, that led to a place, as
 -- read then, holds for it."
-abbrev pub ledTo : Engine → ℕ → Engine
-ledTo e w = withPlace e (place_of w) (polls w)
+abbrev pub led_to : Engine → ℕ → Engine
+led_to e w = with_place e (place_of w) (polls w)
 
 -- ---- reset
 
 -- an engine at reset, by the reset values of its two registers: "The engine's place, 0 at first". No word has led there, and
 -- polling is not enabled (docs/DECISIONS.md, D105)
-abbrev pub engineReset : ℕ → ℕ → Engine
-engineReset start next = made start next false 0 false
+abbrev pub engine_reset : ℕ → ℕ → Engine
+engine_reset start next = made start next false 0 false
 
 -- ---- stopping
 
 -- "stopping by itself changes neither them nor the place": the start bits and the place stay, and with the place its polling
 abbrev pub stopped : Engine → Engine
-stopped e = withRunning e false
+stopped e = with_running e false
 
 -- ---- a descriptor that is not granted
 
 -- 01, "On number 8 the engine keeps its place and looks again at the next frame", amended by 02, Wish 5: "Without it, number 8,
 -- for sending too, also stops that engine; with it, it looks again."
-unfoldable pub notGranted : Engine → Engine
-notGranted e = if e.polling then e else stopped e
+unfoldable pub not_granted : Engine → Engine
+not_granted e = if e.polling then e else stopped e

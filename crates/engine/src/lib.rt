@@ -1,6 +1,6 @@
 // One of the two DMA engines of the device.
 ghost use Rattle.std.specs.Prelude.{◌≡◌};
-ghost use Rattle.engine.specs.Engine.{ledTo, engineReset, stopped, notGranted};
+ghost use Rattle.engine.specs.Engine.{led_to, engine_reset, stopped, not_granted};
 
 // Its start register, its next-descriptor register, whether it runs, its place in the chain, and whether polling is enabled for
 // that place.
@@ -21,7 +21,7 @@ impl Engine {
 
     // An engine at reset, by the reset values of its registers.
     pub fn reset(start: u32, next: u32) -> Engine
-        ensures { result ≡ engineReset start next }
+        ensures { result ≡ engine_reset start next }
     {
         Engine {
             start,
@@ -35,7 +35,7 @@ impl Engine {
     // Its place is where a word leads, and the word's polling bit holds for it: that of the next-descriptor register at a start,
     // of the descriptor at a move.
     pub fn led_to(mut self, word: u32) -> Engine
-        ensures { result ≡ ledTo self word }
+        ensures { result ≡ led_to self word }
     {
         let place = address::place_of(word);
         let polling = address::polls(word);
@@ -54,7 +54,7 @@ impl Engine {
 
     // Its descriptor is not granted: without polling the engine stops; with polling it looks again.
     pub fn not_granted(self) -> Engine
-        ensures { result ≡ notGranted self }
+        ensures { result ≡ not_granted self }
     {
         if self.polling {
             return self;

@@ -1,12 +1,12 @@
 // The two registers of an engine written: the start write, and the next-descriptor write.
 ghost use Rattle.std.specs.Prelude.{◌≡◌};
-ghost use Rattle.engine_write.specs.EngineWrite.{startWritten, nextWritten};
+ghost use Rattle.engine_write.specs.EngineWrite.{start_written, next_written};
 
 use engine::Engine;
 
 // A start write.
 pub fn start_written(mut e: Engine, v: u32) -> Engine
-    ensures { result ≡ startWritten e v }
+    ensures { result ≡ start_written e v }
 {
     e.start = v;
     if v / Engine::DMA_EN % 2 != 1 {
@@ -25,7 +25,7 @@ pub fn start_written(mut e: Engine, v: u32) -> Engine
 
 // A next-descriptor write.
 pub fn next_written(mut e: Engine, v: u32) -> Engine
-    ensures { result ≡ nextWritten e v }
+    ensures { result ≡ next_written e v }
 {
     e.next = v;
     e

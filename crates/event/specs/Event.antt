@@ -4,21 +4,21 @@ use Rattle.std.specs.Prelude.{ℕ, ◌+◌, List, [], ◌∷◌, ◌++◌, lengt
 use Rattle.memory.specs.Memory.{word_bytes}
 
 pub data Event : Type 0 where
-  registerWrite : (offset value : ℕ) → Event
+  register_write : (offset value : ℕ) → Event
   grant : (address : ℕ) → Event
   frame : (bytes : List ℕ) → Event
   send : Event
 
 -- "one byte string for each event": its first byte says which it is
 unfoldable pub bytes_of : Event → List ℕ
-bytes_of (registerWrite offset value) = 1 ∷ word_bytes offset ++ word_bytes value
+bytes_of (register_write offset value) = 1 ∷ word_bytes offset ++ word_bytes value
 bytes_of (grant address) = 2 ∷ word_bytes address
 bytes_of (frame bytes) = 3 ∷ word_bytes (length bytes) ++ bytes
 bytes_of send = 4 ∷ []
 
 -- how many bytes that are
 abbrev pub size : Event → ℕ
-size (registerWrite offset value) = 9
+size (register_write offset value) = 9
 size (grant address) = 5
 size (frame bytes) = 5 + length bytes
 size send = 1

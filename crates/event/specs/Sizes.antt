@@ -3,7 +3,7 @@
 use Rattle.std.specs.Prelude.{ℕ, ◌+◌, Bool, not, ◌&&◌, eqb, ltb, leb}
 use Rattle.rules.specs.Choice.{if◌then◌else◌}
 use Rattle.event.specs.Event.{size}
-use Rattle.event.specs.Front.{Front, whole, cut, noEvent}
+use Rattle.event.specs.Front.{Front, whole, cut, no_event}
 use Rattle.event.specs.declared.Found.{Found}
 use Rattle.event.specs.declared.Found.TheVariants.{Cut, NoEvent}
 
@@ -11,7 +11,7 @@ use Rattle.event.specs.declared.Found.TheVariants.{Cut, NoEvent}
 abbrev pub size_of : Front → ℕ
 size_of (whole e) = size e
 size_of cut = 0
-size_of noEvent = 0
+size_of no_event = 0
 
 -- a byte that an event can begin with: 01 to 04
 unfoldable pub begins : ℕ → Bool
@@ -21,8 +21,8 @@ begins first = not (eqb first 0) && leb first 4
 abbrev pub within : ℕ → ℕ → ℕ
 within left n = if ltb left n then 0 else n
 
-unfoldable pub sizeBy : ℕ → ℕ → ℕ → ℕ
-sizeBy first four left =
+unfoldable pub size_by : ℕ → ℕ → ℕ → ℕ
+size_by first four left =
     if eqb left 0 then 0 else
     if eqb first 1 then within left 9 else
     if eqb first 2 then within left 5 else
@@ -31,5 +31,5 @@ sizeBy first four left =
     0
 
 -- what stands there where there is no whole event, by the first byte
-unfoldable pub noneBy : ℕ → Found
-noneBy first = if begins first then Cut else NoEvent
+unfoldable pub none_by : ℕ → Found
+none_by first = if begins first then Cut else NoEvent

@@ -2,7 +2,7 @@
 use Rattle.std.specs.Prelude.{ℕ, zero, suc, List, [], ◌∷◌, eqb, length, drop}
 use Rattle.rules.specs.Choice.{if◌then◌else◌}
 use Rattle.event.specs.Event.{Event, size, sizes}
-use Rattle.event.specs.Front.{Front, whole, cut, noEvent, front}
+use Rattle.event.specs.Front.{Front, whole, cut, no_event, front}
 use Rattle.event.specs.Sizes.{begins}
 use Rattle.event.specs.declared.Ending.{Ending}
 use Rattle.event.specs.declared.Ending.TheVariants.{Whole, Cut, NoEvent}
@@ -21,13 +21,13 @@ ended ending = record { events = []; ending = ending }
 abbrev pub behind : Front → List ℕ → List ℕ
 behind (whole e) s = drop (size e) s
 behind cut s = []
-behind noEvent s = []
+behind no_event s = []
 
 -- what stands at the front, and the walk behind it
 abbrev pub before : Front → Walk → Walk
 before (whole e) w = record { events = e ∷ w.events; ending = w.ending }
 before cut w = ended Cut
-before noEvent w = ended NoEvent
+before no_event w = ended NoEvent
 
 -- at most n events
 unfoldable pub walks : ℕ → List ℕ → Walk
@@ -43,5 +43,5 @@ abbrev pub counted : Walk → Walked
 counted w = record { place = sizes w.events; events = length w.events; ending = w.ending }
 
 -- how a string ends that begins with no whole event, by its first byte and its length
-unfoldable pub endingBy : ℕ → ℕ → Ending
-endingBy first left = if eqb left 0 then Whole else if begins first then Cut else NoEvent
+unfoldable pub ending_by : ℕ → ℕ → Ending
+ending_by first left = if eqb left 0 then Whole else if begins first then Cut else NoEvent

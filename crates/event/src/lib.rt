@@ -2,8 +2,8 @@
 // along the list.
 ghost use Rattle.std.specs.Prelude.{◌≡◌, drop};
 ghost use Rattle.event.specs.Front.{front, found};
-ghost use Rattle.event.specs.Sizes.{begins, within, sizeBy, size_of, noneBy};
-ghost use Rattle.event.specs.Walk.{endingBy, walk, counted};
+ghost use Rattle.event.specs.Sizes.{begins, within, size_by, size_of, none_by};
+ghost use Rattle.event.specs.Walk.{ending_by, walk, counted};
 
 // What stands at a place of an event list. A frame is told by where its bytes lie in the list, and how many they are; `Cut` is
 // an event of which bytes are missing, `NoEvent` a byte that no event can have there.
@@ -46,7 +46,7 @@ fn begins(first: u8) -> bool
 
 // What is behind the last whole event: so many bytes, and the first of them.
 pub fn ends(first: u8, left: usize) -> Ending
-    ensures { result ≡ endingBy first left }
+    ensures { result ≡ ending_by first left }
 {
     if left == 0 {
         return Ending::Whole;
@@ -67,7 +67,7 @@ fn within(left: usize, n: usize) -> usize
 // The size of an event by its first byte, the four bytes behind it as a number, and the bytes left from its first on; 0 where
 // it is not whole or there is none.
 pub fn size(first: u8, four: u32, left: usize) -> usize
-    ensures { result ≡ sizeBy first four left }
+    ensures { result ≡ size_by first four left }
 {
     if left == 0 {
         return 0;
@@ -122,7 +122,7 @@ pub fn walk(list: &[u8]) -> Walked
 
 // What stands there by its first byte where there is no whole event.
 fn none(first: u8) -> Found
-    ensures { result ≡ noneBy first }
+    ensures { result ≡ none_by first }
 {
     if begins(first) {
         return Found::Cut;

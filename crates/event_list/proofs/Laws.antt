@@ -9,17 +9,17 @@ use Rattle.event.specs.Event.{Event, grant, frame, send, bytes_of}
 
 module _ (l : List ℕ) (at : ℕ) (x : Put) where
   -- one whose bytes lie in one piece
-  pub whole-put : (e : Event) (s : List ℕ) → s ≡ bytes_of e → x ≡ put l at (s ++ []) → x ≡ put l at (bytes_of e)
-  whole-put e s p h = h ∙ rw (append-nil s, p)
+  pub whole_put : (e : Event) (s : List ℕ) → s ≡ bytes_of e → x ≡ put l at (s ++ []) → x ≡ put l at (bytes_of e)
+  whole_put e s p h = h ∙ rw (append-nil s, p)
 
-  pub grant-put : (address : ℕ) (s : List ℕ) → s ≡ 2 ∷ word_bytes address → x ≡ put l at (s ++ []) → x ≡ put l at (bytes_of (grant address))
+  pub grant_put : (address : ℕ) (s : List ℕ) → s ≡ 2 ∷ word_bytes address → x ≡ put l at (s ++ []) → x ≡ put l at (bytes_of (grant address))
   unfolding bytes_of
-  grant-put address s p h = whole-put (grant address) s p h
+  grant_put address s p h = whole_put (grant address) s p h
 
-  pub frame-put : (s head : List ℕ) → head ≡ 3 ∷ word_bytes (length s) → x ≡ put l at (head ++ s) → x ≡ put l at (bytes_of (frame s))
+  pub frame_put : (s head : List ℕ) → head ≡ 3 ∷ word_bytes (length s) → x ≡ put l at (head ++ s) → x ≡ put l at (bytes_of (frame s))
   unfolding bytes_of
-  frame-put s head p h = h ∙ rw p
+  frame_put s head p h = h ∙ rw p
 
-  pub send-put : x ≡ put l at (4 ∷ []) → x ≡ put l at (bytes_of send)
+  pub send_put : x ≡ put l at (4 ∷ []) → x ≡ put l at (bytes_of send)
   unfolding bytes_of
-  send-put h = h
+  send_put h = h

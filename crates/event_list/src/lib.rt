@@ -3,12 +3,12 @@
 // at, and the list is as it was.
 ghost use Rattle.std.specs.Prelude.{◌≡◌, ◌∷◌, ◌++◌};
 ghost use Rattle.memory.specs.Memory.{word_bytes};
-ghost use Rattle.event.specs.Event.{registerWrite, grant as aGrant, frame as aFrame, send as aSend, bytes_of};
+ghost use Rattle.event.specs.Event.{register_write, grant as a_grant, frame as aFrame, send as a_send, bytes_of};
 ghost use Rattle.appending.specs.Put.{put_of, put};
 
 // The bytes of a register write.
 fn write_bytes(offset: u32, value: u32) -> [u8; 9]
-    ensures { result ≡ bytes_of (registerWrite offset value) }
+    ensures { result ≡ bytes_of (register_write offset value) }
 {
     [
         1,
@@ -37,14 +37,14 @@ fn numbered(first: u8, n: usize) -> [u8; 5]
 }
 
 pub fn write(list: &mut [u8], at: usize, offset: u32, value: u32) -> usize
-    ensures { put_of result list.new ≡ put list.old at (bytes_of (registerWrite offset value)) }
+    ensures { put_of result list.new ≡ put list.old at (bytes_of (register_write offset value)) }
 {
     let event = write_bytes(offset, value);
     appending::put(list, at, &event, b"")
 }
 
 pub fn grant(list: &mut [u8], at: usize, address: u32) -> usize
-    ensures { put_of result list.new ≡ put list.old at (bytes_of (aGrant address)) }
+    ensures { put_of result list.new ≡ put list.old at (bytes_of (a_grant address)) }
 {
     let event = numbered(2, address as usize);
     appending::put(list, at, &event, b"")
@@ -58,7 +58,7 @@ pub fn frame(list: &mut [u8], at: usize, s: &[u8]) -> usize
 }
 
 pub fn send(list: &mut [u8], at: usize) -> usize
-    ensures { put_of result list.new ≡ put list.old at (bytes_of aSend) }
+    ensures { put_of result list.new ≡ put list.old at (bytes_of a_send) }
 {
     appending::put(list, at, &[4], b"")
 }

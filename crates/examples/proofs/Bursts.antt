@@ -6,90 +6,90 @@ use mathlib.Core.List.{List, [], ◌∷◌, ◌++◌}
 use native.Mathlib.Omega.{arith}
 use lib.ListN.{replicate}
 use Rattle.memory.specs.Memory.{word, word_bytes, store}
-use Rattle.window.specs.Window.{lent, inWindow, holdsDescriptor}
+use Rattle.window.specs.Window.{lent, in_window, holds_descriptor}
 use Rattle.address.specs.Address.{apart, aligned, place_of, polls}
-use Rattle.descriptor.specs.Descriptor.{count, nextEnabled, start, nextWord, next}
-use Rattle.packet_status.specs.PacketStatus.{packetStatus, granted, withPacketStatus}
-use Rattle.chain.specs.Buffer.{bytesFault, bufferFault}
-use Rattle.fcs.specs.Polynomial.{generator, remainder, registerBits, checkBits}
-use Rattle.fcs.specs.CheckSequence.{checkNumber, checkSequence, checkRight}
-use Rattle.frame.specs.Length.{lengthAllowed}
-use Rattle.reason.specs.Status.{deliveredStatus}
-use Rattle.address_rule.specs.AddressRule.{firstMet}
-use Rattle.frame.specs.Frame.{frameNumberBy}
-use Rattle.outcomes.specs.Outcomes.{rxRefused, rxAdvanced}
-use Rattle.receiving.specs.Receiving.{receiveNumber, delivered}
-use Rattle.engine.specs.Engine.{notGranted}
-use Rattle.engine_write.specs.EngineWrite.{startWritten}
+use Rattle.descriptor.specs.Descriptor.{count, next_enabled, start, next_word, next}
+use Rattle.packet_status.specs.PacketStatus.{packet_status, granted, with_packet_status}
+use Rattle.chain.specs.Buffer.{bytes_fault, buffer_fault}
+use Rattle.fcs.specs.Polynomial.{generator, remainder, register_bits, check_bits}
+use Rattle.fcs.specs.CheckSequence.{check_number, check_sequence, check_right}
+use Rattle.frame.specs.Length.{length_allowed}
+use Rattle.reason.specs.Status.{delivered_status}
+use Rattle.address_rule.specs.AddressRule.{first_met}
+use Rattle.frame.specs.Frame.{frame_number_by}
+use Rattle.outcomes.specs.Outcomes.{rx_refused, rx_advanced}
+use Rattle.receiving.specs.Receiving.{receive_number, delivered}
+use Rattle.engine.specs.Engine.{not_granted}
+use Rattle.engine_write.specs.EngineWrite.{start_written}
 use Rattle.enet.specs.Frames.{grant, receive}
-use Rattle.chain.specs.Chain.{chainNumber}
+use Rattle.chain.specs.Chain.{chain_number}
 use Rattle.granting.specs.Granting as plain
-use Rattle.granting.specs.Granting.{grantNumber}
+use Rattle.granting.specs.Granting.{grant_number}
 use Rattle.receiving.specs.Receive as receiving
-use Rattle.receiving.specs.Receive.{receiveAt}
+use Rattle.receiving.specs.Receive.{receive_at}
 use Rattle.pair.specs.Pair.{passes, bytes_of, received}
-use Rattle.burst.specs.Burst.{receives, refuses, burst, pairsOf, uneven, burstOf}
-use Rattle.burst.specs.Taken.{taken, framesInside, answersInside}
-use Rattle.calls.specs.Calls.{Bench, Call, grantCall, burstCall, call}
+use Rattle.burst.specs.Burst.{receives, refuses, burst, pairs_of, uneven, burst_of}
+use Rattle.burst.specs.Taken.{taken, frames_inside, answers_inside}
+use Rattle.calls.specs.Calls.{Bench, Call, grant_call, burst_call, call}
 use Rattle.links.specs.Links.{follow}
-use Rattle.steps.specs.Steps.{Step, publicCall, framesOf, Progress, begin, afterSteps}
-use Rattle.steps.specs.Start.{inOrder, Obeys}
+use Rattle.steps.specs.Steps.{Step, public_call, frames_of, Progress, begin, after_steps}
+use Rattle.steps.specs.Start.{in_order, Obeys}
 use Rattle.whole.specs.Whole.{LiesWhole}
-use Rattle.history.specs.Claim.{Lost, deliveredBy, Claim}
+use Rattle.history.specs.Claim.{Lost, delivered_by, Claim}
 use Rattle.history.proofs.Theorem.{demand3}
-use Rattle.examples.proofs.Examples.{first, ring, frame, granting, ring-of-two}
+use Rattle.examples.proofs.Examples.{first, ring, frame, granting, ring_of_two}
 
 -- ---- the list: both descriptors are granted, and the burst comes
 
 -- another frame than the one of Examples: 59 zeros, a 1 and their check sequence
 unfoldable pub other : List ℕ
-other = replicate 59 0 ++ (1 ∷ []) ++ checkSequence (replicate 59 0 ++ (1 ∷ []))
+other = replicate 59 0 ++ (1 ∷ []) ++ check_sequence (replicate 59 0 ++ (1 ∷ []))
 
 -- a store of both frames, and four pairs of it: the one, the other, 64 bytes that pass the store's end by one, and the one again
-abbrev burstOfFour : List ℕ → Call
-burstOfFour answers = burstCall (frame ++ other) (0 ∷ 64 ∷ 65 ∷ 0 ∷ []) (64 ∷ 64 ∷ 64 ∷ 64 ∷ []) answers
+abbrev burst_of_four : List ℕ → Call
+burst_of_four answers = burst_call (frame ++ other) (0 ∷ 64 ∷ 65 ∷ 0 ∷ []) (64 ∷ 64 ∷ 64 ∷ 64 ∷ []) answers
 
-abbrev theBurst : Call
-theBurst = burstOfFour (99 ∷ 99 ∷ 99 ∷ 99 ∷ [])
+abbrev the_burst : Call
+the_burst = burst_of_four (99 ∷ 99 ∷ 99 ∷ 99 ∷ [])
 
 -- the same with an answer list that is too short
-abbrev refusedBurst : Call
-refusedBurst = burstOfFour (99 ∷ 99 ∷ 99 ∷ [])
+abbrev refused_burst : Call
+refused_burst = burst_of_four (99 ∷ 99 ∷ 99 ∷ [])
 
 abbrev grants : List Step
-grants = publicCall (grantCall first) ∷ publicCall (grantCall (inOrder (ring 2) first 1)) ∷ []
+grants = public_call (grant_call first) ∷ public_call (grant_call (in_order (ring 2) first 1)) ∷ []
 
 abbrev steps : List Step
-steps = grants ++ (publicCall theBurst ∷ [])
+steps = grants ++ (public_call the_burst ∷ [])
 
 -- the bench that the burst meets, and the one that it leaves
 abbrev before : Progress
-before = afterSteps (begin (ring 2)) grants
+before = after_steps (begin (ring 2)) grants
 
 abbrev after : Bench
-after = (call before.bench theBurst).bench
+after = (call before.bench the_burst).bench
 
 -- what demand 3 asks of the list, what the burst answers, and what demand 3 says of its frames
 pub record BurstExample : Type 0 where
   pub obeys : Obeys (ring 2) 2 first (begin (ring 2)) steps
-  pub list : (call before.bench theBurst).list ≡ 0 ∷ 0 ∷ 16 ∷ 8 ∷ []
-  pub brought : framesOf (publicCall theBurst) ≡ frame ∷ other ∷ frame ∷ []
-  pub counts : deliveredBy (begin (ring 2)) steps ≡ 1 ∷ 2 ∷ 2 ∷ []
-  pub lost : Lost before (publicCall theBurst) 2
+  pub list : (call before.bench the_burst).list ≡ 0 ∷ 0 ∷ 16 ∷ 8 ∷ []
+  pub brought : frames_of (public_call the_burst) ≡ frame ∷ other ∷ frame ∷ []
+  pub counts : delivered_by (begin (ring 2)) steps ≡ 1 ∷ 2 ∷ 2 ∷ []
+  pub lost : Lost before (public_call the_burst) 2
   pub claim : Claim (ring 2) 2 first steps
   -- each of the two delivered frames lies whole in its own buffer when the burst ends
-  pub firstWhole : LiesWhole after first frame
-  pub secondWhole : LiesWhole after (inOrder (ring 2) first 1) other
+  pub first_whole : LiesWhole after first frame
+  pub second_whole : LiesWhole after (in_order (ring 2) first 1) other
   -- the refused burst
-  pub refused : (call before.bench refusedBurst).number ≡ 16
-  pub unanswered : (call before.bench refusedBurst).list ≡ 99 ∷ 99 ∷ 99 ∷ []
-  pub unchanged : (call before.bench refusedBurst).bench ≡ before.bench
-  pub none : framesOf (publicCall refusedBurst) ≡ []
+  pub refused : (call before.bench refused_burst).number ≡ 16
+  pub unanswered : (call before.bench refused_burst).list ≡ 99 ∷ 99 ∷ 99 ∷ []
+  pub unchanged : (call before.bench refused_burst).bench ≡ before.bench
+  pub none : frames_of (public_call refused_burst) ≡ []
 
-all-permitted : Obeys (ring 2) 2 first (begin (ring 2)) steps
+all_permitted : Obeys (ring 2) 2 first (begin (ring 2)) steps
 unfolding
-    follow place_of polls startWritten grant plain.grant grantNumber holdsDescriptor lent aligned inWindow granted packetStatus withPacketStatus word word_bytes store
-all-permitted = (
+    follow place_of polls start_written grant plain.grant grant_number holds_descriptor lent aligned in_window granted packet_status with_packet_status word word_bytes store
+all_permitted = (
   granting (ring 2) 2 first _ first refl,
   (
     granting (ring 2) 2 first _ _ refl,
@@ -97,26 +97,26 @@ all-permitted = (
   ),
 )
 
-pub a-burst : BurstExample
+pub a_burst : BurstExample
 unfolding
-    lent aligned inWindow apart place_of polls follow
-    count nextEnabled start nextWord next packetStatus granted withPacketStatus bufferFault bytesFault word word_bytes store
-    frame other frameNumberBy lengthAllowed firstMet checkRight checkSequence checkNumber checkBits registerBits remainder generator
-    receive receiving.receive receiveAt receiveNumber chainNumber rxRefused notGranted delivered deliveredStatus rxAdvanced
-    grant plain.grant grantNumber holdsDescriptor startWritten afterSteps deliveredBy
-    passes bytes_of received receives refuses burst pairsOf uneven burstOf taken framesInside answersInside
-a-burst =
-    let claim = demand3 (ring 2) 2 first ring-of-two.starts steps all-permitted in
-    let met = claim.each grants [] (publicCall theBurst) refl in
+    lent aligned in_window apart place_of polls follow
+    count next_enabled start next_word next packet_status granted with_packet_status buffer_fault bytes_fault word word_bytes store
+    frame other frame_number_by length_allowed first_met check_right check_sequence check_number check_bits register_bits remainder generator
+    receive receiving.receive receive_at receive_number chain_number rx_refused not_granted delivered delivered_status rx_advanced
+    grant plain.grant grant_number holds_descriptor start_written after_steps delivered_by
+    passes bytes_of received receives refuses burst pairs_of uneven burst_of taken frames_inside answers_inside
+a_burst =
+    let claim = demand3 (ring 2) 2 first ring_of_two.starts steps all_permitted in
+    let met = claim.each grants [] (public_call the_burst) refl in
     record {
-      obeys = all-permitted;
+      obeys = all_permitted;
       list = refl;
       brought = refl;
       counts = refl;
       lost = refl;
       claim = claim;
-      firstWhole = ((met 0 (omega arith)).nth refl).1;
-      secondWhole = ((met 1 (omega arith)).nth refl).1;
+      first_whole = ((met 0 (omega arith)).nth refl).1;
+      second_whole = ((met 1 (omega arith)).nth refl).1;
       refused = refl;
       unanswered = refl;
       unchanged = refl;

@@ -6,19 +6,19 @@ use mathlib.Core.List.{List, ◌++◌}
 use native.Mathlib.Omega.{arith}
 use lib.ListN.{replicate}
 use Rattle.memory.specs.Memory.{word, word_bytes}
-use Rattle.window.specs.Window.{lent, inWindow}
+use Rattle.window.specs.Window.{lent, in_window}
 use Rattle.address.specs.Address.{place_of, polls}
-use Rattle.packet_status.specs.PacketStatus.{packetStatus, granted}
+use Rattle.packet_status.specs.PacketStatus.{packet_status, granted}
 use Rattle.registers.specs.declared.Register.TheVariants.{TxStart, TxTimeout}
 use Rattle.registers.specs.Registers as registers
-use Rattle.engine_write.specs.EngineWrite.{startWritten}
+use Rattle.engine_write.specs.EngineWrite.{start_written}
 use Rattle.register_write.specs.Write.{written}
 use Rattle.counters.specs.Counters as counters
 use Rattle.ticking.specs.Tick.{stalled}
 use Rattle.enet.specs.Device.{made}
 use Rattle.calls.specs.Calls.{Bench}
 use Rattle.counting.specs.Ticks.{ticks, Stalls}
-use Rattle.counting.proofs.Ticks.{fires-behind}
+use Rattle.counting.proofs.Ticks.{fires_behind}
 
 -- a window of 64 bytes from 0 on, with one descriptor at its front
 abbrev bench : Bench
@@ -28,7 +28,7 @@ bench = record {
 }
 
 stalls : Stalls bench
-unfolding lent stalled inWindow granted packetStatus word word_bytes startWritten place_of polls
+unfolding lent stalled in_window granted packet_status word word_bytes start_written place_of polls
 stalls = record { whole = refl; set = λ e. omega (arith, e); stands = refl; fresh = refl }
 
 pub record TimesOut : Type 0 where
@@ -37,10 +37,10 @@ pub record TimesOut : Type 0 where
   pub fires : (ticks 3 bench).device.registers.isr ≡ 0x000d_0001
   pub again : (ticks 3 bench).device.counters.ticks ≡ 0
 
-pub times-out : TimesOut
-times-out =
-    let counted = fires-behind.counts bench stalls 2 (omega arith) in
-    let fired = fires-behind.fires bench stalls in
+pub times_out : TimesOut
+times_out =
+    let counted = fires_behind.counts bench stalls 2 (omega arith) in
+    let fired = fires_behind.fires bench stalls in
     record {
       two = ap (λ (b : Bench). b.device.counters.ticks) counted;
       quiet = ap (λ (b : Bench). b.device.registers.isr) counted;

@@ -1,6 +1,6 @@
 // The frame check sequence of IEEE 802.3.
 ghost use Rattle.std.specs.Prelude.{◌≡◌, ◌<◌};
-ghost use Rattle.fcs.specs.CheckSequence.{checkNumber, checkRight, room, closed};
+ghost use Rattle.fcs.specs.CheckSequence.{check_number, check_right, room, closed};
 
 // A byte as a number. That it is below 256 is said for the callers' sums.
 fn wide(b: u8) -> u32
@@ -11,14 +11,14 @@ fn wide(b: u8) -> u32
 
 // The check of a message, its first bit on the wire the least significant.
 pub fn check_number(bytes: &[u8]) -> u32
-    ensures { result ≡ checkNumber bytes.now }
+    ensures { result ≡ check_number bytes.now }
 {
     !half_bytes::bytes_in(0xffff_ffff, bytes)
 }
 
 // Whether the last four bytes of a frame are the check sequence of those before.
 pub fn check_right(frame: &[u8]) -> bool
-    ensures { result ≡ checkRight frame.now }
+    ensures { result ≡ check_right frame.now }
 {
     let n = frame.len();
     if n < 4 {

@@ -10,33 +10,33 @@ use lib.Seq.{drop-cons}
 use Rattle.words.specs.Words.{characters}
 use Rattle.text.specs.Text.{Text, written, put}
 use Rattle.fields.specs.Fields.{each, digits, number, glyph, pair, pairs, bytes, value}
-use Rattle.text.proofs.Laws.{put-more, put_then, put-nothing}
+use Rattle.text.proofs.Laws.{put_more, put_then, put_nothing}
 
 -- ---- the digits of a number
 
-digits-small : (most n : ℕ) → (most ≡ 0 → ⊥) → n < 10 → digits most n ≡ (48 + n % 10) ∷ []
+digits_small : (most n : ℕ) → (most ≡ 0 → ⊥) → n < 10 → digits most n ≡ (48 + n % 10) ∷ []
 unfolding digits
-digits-small zero n z l = absurd (z refl)
-digits-small (suc most) n z l = rw (lt-ltb n 10 l)
+digits_small zero n z l = absurd (z refl)
+digits_small (suc most) n z l = rw (lt-ltb n 10 l)
 
-digits-great : (most n : ℕ) → (most ≡ 0 → ⊥) → 10 ≤ n → digits most n ≡ digits (most - 1) (n / 10) ++ ((48 + n % 10) ∷ [])
+digits_great : (most n : ℕ) → (most ≡ 0 → ⊥) → 10 ≤ n → digits most n ≡ digits (most - 1) (n / 10) ++ ((48 + n % 10) ∷ [])
 unfolding digits
-digits-great zero n z l = absurd (z refl)
-digits-great (suc most) n z l =
+digits_great zero n z l = absurd (z refl)
+digits_great (suc most) n z l =
     let e : suc most - 1 ≡ most = omega arith in
     rw (le-ltb n 10 l, e)
 
 module _ (t : List ℕ) (at n most : ℕ) (x : Text) where
-  pub digits-none : most ≡ 0 → x ≡ put t at [] → x ≡ put t at (digits most n)
+  pub digits_none : most ≡ 0 → x ≡ put t at [] → x ≡ put t at (digits most n)
   unfolding digits
-  digits-none z e = rw z e
+  digits_none z e = rw z e
 
   pub digits_last : (most ≡ 0 → ⊥) → n < 10 → x ≡ put t at ((48 + n % 10) ∷ []) → x ≡ put t at (digits most n)
-  digits_last z l e = rw (digits-small most n z l) e
+  digits_last z l e = rw (digits_small most n z l) e
 
   pub digits_more : (t' : List ℕ) (end : ℕ) → (most ≡ 0 → ⊥) → 10 ≤ n → written end t' ≡ put t at (digits (most - 1) (n / 10))
       → x ≡ put t' end ((48 + n % 10) ∷ []) → x ≡ put t at (digits most n)
-  digits_more t' end z l e h = rw (digits-great most n z l) (put_then t t' at end _ _ x e h)
+  digits_more t' end z l e h = rw (digits_great most n z l) (put_then t t' at end _ _ x e h)
 
 -- ---- a field for each of some numbers: the turns of a loop over them, and its end
 
@@ -48,22 +48,22 @@ module _ (field : ℕ → List ℕ) (s : List ℕ) where
   pub each_turn : (t t' : List ℕ) (end end' i : ℕ) (all : Text) → written end' t' ≡ put t end (field (get_or s i 0)) → i < length s
       → put t end (each field (drop i s)) ≡ all → put t' end' (each field (drop (i + 1) s)) ≡ all
   each_turn t t' end end' i all e h so_far =
-      put-more t t' end end' (field (get_or s i 0)) (each field (drop (i + 1) s)) e ∙ ap (put t end) (sym (each_next i h)) ∙ so_far
+      put_more t t' end end' (field (get_or s i 0)) (each field (drop (i + 1) s)) e ∙ ap (put t end) (sym (each_next i h)) ∙ so_far
 
-  pub each-end : (t : List ℕ) (end i : ℕ) (all : Text) → put t end (each field (drop i s)) ≡ all → length s ≤ i → end ≤ length t → written end t ≡ all
+  pub each_end : (t : List ℕ) (end i : ℕ) (all : Text) → put t end (each field (drop i s)) ≡ all → length s ≤ i → end ≤ length t → written end t ≡ all
   unfolding each
-  each-end t end i all so_far l h = put-nothing t end end (omega arith) ∙ (rw (drop_of_length-le s {i = i} l) at so_far)
+  each_end t end i all so_far l h = put_nothing t end end (omega arith) ∙ (rw (drop_of_length-le s {i = i} l) at so_far)
 
 -- ---- bytes in pairs
 
 -- the character of a digit below 10, and of one above
-pub glyph-digit : (d : ℕ) → d < 10 → 48 + d ≡ glyph d
+pub glyph_digit : (d : ℕ) → d < 10 → 48 + d ≡ glyph d
 unfolding glyph
-glyph-digit d h = rw (lt-ltb d 10 h)
+glyph_digit d h = rw (lt-ltb d 10 h)
 
-pub glyph-letter : (d : ℕ) → 10 ≤ d → 87 + d ≡ glyph d
+pub glyph_letter : (d : ℕ) → 10 ≤ d → 87 + d ≡ glyph d
 unfolding glyph
-glyph-letter d h = rw (le-ltb d 10 h)
+glyph_letter d h = rw (le-ltb d 10 h)
 
 pub pair_is : (t : List ℕ) (at b high low : ℕ) (x : Text) → high ≡ glyph (b / 16) → low ≡ glyph (b % 16)
     → x ≡ put t at (high ∷ low ∷ []) → x ≡ put t at (pair b)
@@ -73,19 +73,19 @@ pair_is t at b high low x h l e = rw (← h, ← l) e
 -- ---- fields, each behind a space
 
 module _ (t : List ℕ) (at : ℕ) (x : Text) where
-  pub bytes-none : (s : List ℕ) → length s ≡ 0 → x ≡ put t at (characters " -") → x ≡ put t at (bytes s)
+  pub bytes_none : (s : List ℕ) → length s ≡ 0 → x ≡ put t at (characters " -") → x ≡ put t at (bytes s)
   unfolding bytes
-  bytes-none s l e = rw (eq-eqb (length s) 0 l) e
+  bytes_none s l e = rw (eq-eqb (length s) 0 l) e
 
   module _ (t' : List ℕ) (end : ℕ) (space : written end t' ≡ put t at (characters " ")) where
-    pub bytes-some : (s : List ℕ) → (length s ≡ 0 → ⊥) → x ≡ put t' end (pairs s) → x ≡ put t at (bytes s)
+    pub bytes_some : (s : List ℕ) → (length s ≡ 0 → ⊥) → x ≡ put t' end (pairs s) → x ≡ put t at (bytes s)
     unfolding bytes
-    bytes-some s l e = rw (ne_eqb (length s) 0 l) (put_then t t' at end (characters " ") (pairs s) x space e)
+    bytes_some s l e = rw (ne_eqb (length s) 0 l) (put_then t t' at end (characters " ") (pairs s) x space e)
 
     pub number_is : (n : ℕ) → x ≡ put t' end (digits 20 n) → x ≡ put t at (number n)
     unfolding number
     number_is n e = put_then t t' at end (characters " ") (digits 20 n) x space e
 
-    pub value-is : (v : ℕ) → x ≡ put t' end (pairs (v / 0x100_0000 % 256 ∷ v / 0x1_0000 % 256 ∷ v / 256 % 256 ∷ v % 256 ∷ [])) → x ≡ put t at (value v)
+    pub value_is : (v : ℕ) → x ≡ put t' end (pairs (v / 0x100_0000 % 256 ∷ v / 0x1_0000 % 256 ∷ v / 256 % 256 ∷ v % 256 ∷ [])) → x ≡ put t at (value v)
     unfolding value
-    value-is v e = put_then t t' at end (characters " ") _ x space e
+    value_is v e = put_then t t' at end (characters " ") _ x space e

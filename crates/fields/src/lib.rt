@@ -2,7 +2,7 @@
 // answers where it ends then. What has no room is not written.
 ghost use Rattle.std.specs.Prelude.{◌≡◌, ◌<◌, ◌≤◌, length};
 ghost use Rattle.text.specs.Text.{written, put as putInto};
-ghost use Rattle.fields.specs.Fields.{digits as digitsOf, number as number_of, glyph as glyphOf, pair as pair_of, pairs as pairsOf, bytes as bytes_of, value as value_of};
+ghost use Rattle.fields.specs.Fields.{digits as digitsOf, number as number_of, glyph as glyphOf, pair as pair_of, pairs as pairs_of, bytes as bytes_of, value as value_of};
 
 // The digits of a number, the last `most` of them.
 fn digits(text: &mut [u8], at: usize, n: u64, most: u32) -> usize
@@ -48,7 +48,7 @@ fn pair(text: &mut [u8], at: usize, b: u8) -> usize
 // The digits of bytes.
 fn pairs(text: &mut [u8], at: usize, s: &[u8]) -> usize
     requires { at ≤ length text.old }
-    ensures { written result text.new ≡ putInto text.old at (pairsOf s.now) }
+    ensures { written result text.new ≡ putInto text.old at (pairs_of s.now) }
 {
     let mut end = at;
     let mut i = 0;

@@ -14,5 +14,5 @@ counted n s h =
 pub fewer : (n : ℕ) (s : List ℕ) → n < length s → (n ≡ min n (length s)) × IsPrefixLen n s
 fewer n s h = (omega arith, counted n s (omega arith))
 
-pub all-of-them : (n : ℕ) (s : List ℕ) → length s ≤ n → (length s ≡ min n (length s)) × IsPrefixLen (length s) s
-all-of-them n s h = (omega arith, counted (length s) s (omega arith))
+pub all_of_them : (n : ℕ) (s : List ℕ) → length s ≤ n → (length s ≡ min n (length s)) × IsPrefixLen (length s) s
+all_of_them n s h = (omega arith, counted (length s) s (omega arith))

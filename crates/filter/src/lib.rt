@@ -1,6 +1,6 @@
 // The filter registers, and what they say: receive-all, the filter mode, the station address.
 ghost use Rattle.std.specs.Prelude.{◌≡◌};
-ghost use Rattle.filter.specs.Meaning.{receive_all, filterMode, stationAddress};
+ghost use Rattle.filter.specs.Meaning.{receive_all, filter_mode, station_address};
 
 // The filter registers: MAC control, MAC address high and low, multicast hash high and low.
 #[derive(Drop)]
@@ -44,14 +44,14 @@ pub fn receive_all(control: u32) -> bool
 
 // The filter mode that MAC control selects.
 pub fn filter_mode(control: u32) -> u32
-    ensures { result ≡ filterMode control }
+    ensures { result ≡ filter_mode control }
 {
     control / Filter::AFM_UNIT % Filter::AFM_MODES
 }
 
 // The station address as on the wire.
 pub fn station_address(high: u32, low: u32) -> Station
-    ensures { result.bytes ≡ stationAddress high low }
+    ensures { result.bytes ≡ station_address high low }
 {
     Station {
         bytes: [

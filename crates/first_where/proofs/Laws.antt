@@ -10,57 +10,57 @@ use native.Mathlib.Numerals.{add-one}
 use lib.ListN.{length, get_or, drop, drop_of_length-le}
 use lib.Seq.{drop-cons}
 use Rattle.rules.proofs.Choices.{by_bool}
-use Rattle.first_where.specs.First.{firstWhere}
+use Rattle.first_where.specs.First.{first_where}
 
 module _ {A : Type 0} (t : A → Bool) where
   -- ---- a loop along the list
 
   -- the test holds where the loop stands
   pub found_here : (l : List A) (i : ℕ) (d : A) → i < length l → t (get_or l i d) ≡ true
-      → i + firstWhere t (drop i l) ≡ firstWhere t l → i ≡ firstWhere t l
-  unfolding firstWhere
+      → i + first_where t (drop i l) ≡ first_where t l → i ≡ first_where t l
+  unfolding first_where
   found_here l i d h e inv = rw (drop-cons l i d h, e, add-zero i) at inv
 
   -- it does not: one place further
-  pub found-later : (l : List A) (i : ℕ) (d : A) → i < length l → t (get_or l i d) ≡ false
-      → i + firstWhere t (drop i l) ≡ firstWhere t l → (i + 1) + firstWhere t (drop (i + 1) l) ≡ firstWhere t l
-  unfolding firstWhere
-  found-later l i d h e inv =
-      let g : i + suc (firstWhere t (drop (suc i) l)) ≡ firstWhere t l = rw (drop-cons l i d h, e) at inv in
+  pub found_later : (l : List A) (i : ℕ) (d : A) → i < length l → t (get_or l i d) ≡ false
+      → i + first_where t (drop i l) ≡ first_where t l → (i + 1) + first_where t (drop (i + 1) l) ≡ first_where t l
+  unfolding first_where
+  found_later l i d h e inv =
+      let g : i + suc (first_where t (drop (suc i) l)) ≡ first_where t l = rw (drop-cons l i d h, e) at inv in
       rw (add-one i) (omega arith)
 
   -- the end of the list
-  pub found_nowhere : (l : List A) (i : ℕ) → length l ≤ i → i + firstWhere t (drop i l) ≡ firstWhere t l → i ≡ firstWhere t l
-  unfolding firstWhere
+  pub found_nowhere : (l : List A) (i : ℕ) → length l ≤ i → i + first_where t (drop i l) ≡ first_where t l → i ≡ first_where t l
+  unfolding first_where
   found_nowhere l i h inv = rw (drop_of_length-le l h, add-zero i) at inv
 
   -- ---- what the first place is
 
-  pub first-within : (l : List A) → firstWhere t l ≤ length l
-  unfolding firstWhere
-  first-within [] = omega arith
-  first-within (a ∷ l) = by_bool (t a) (λ e. rw e (omega arith)) (λ e. let h = first-within l in rw e (omega arith))
+  pub first_within : (l : List A) → first_where t l ≤ length l
+  unfolding first_where
+  first_within [] = omega arith
+  first_within (a ∷ l) = by_bool (t a) (λ e. rw e (omega arith)) (λ e. let h = first_within l in rw e (omega arith))
 
   -- the test holds there
-  pub first_holds : (l : List A) (d : A) → firstWhere t l < length l → t (get_or l (firstWhere t l) d) ≡ true
-  unfolding firstWhere
+  pub first_holds : (l : List A) (d : A) → first_where t l < length l → t (get_or l (first_where t l) d) ≡ true
+  unfolding first_where
   first_holds [] d h = absurd (not-suc-le-zero h)
   first_holds (a ∷ l) d h =
-      by_bool (t a) (λ e. rw e e) (λ e. let g : suc (firstWhere t l) < suc (length l) = rw e at h in rw e (first_holds l d (le_of_suc-le-suc g)))
+      by_bool (t a) (λ e. rw e e) (λ e. let g : suc (first_where t l) < suc (length l) = rw e at h in rw e (first_holds l d (le_of_suc-le-suc g)))
 
   -- and at no place before
-  pub first-before : (l : List A) (d : A) (k : ℕ) → k < firstWhere t l → t (get_or l k d) ≡ false
-  unfolding firstWhere
-  first-before [] d k h = absurd (not-suc-le-zero h)
-  first-before (a ∷ l) d zero h = by_bool (t a) (λ e. let g : 0 < 0 = rw e at h in absurd (not-suc-le-zero g)) (λ e. e)
-  first-before (a ∷ l) d (suc k) h =
+  pub first_before : (l : List A) (d : A) (k : ℕ) → k < first_where t l → t (get_or l k d) ≡ false
+  unfolding first_where
+  first_before [] d k h = absurd (not-suc-le-zero h)
+  first_before (a ∷ l) d zero h = by_bool (t a) (λ e. let g : 0 < 0 = rw e at h in absurd (not-suc-le-zero g)) (λ e. e)
+  first_before (a ∷ l) d (suc k) h =
       by_bool (t a) (λ e. let g : suc k < 0 = rw e at h in absurd (not-suc-le-zero g))
-      (λ e. let g : suc k < suc (firstWhere t l) = rw e at h in first-before l d k (le_of_suc-le-suc g))
+      (λ e. let g : suc k < suc (first_where t l) = rw e at h in first_before l d k (le_of_suc-le-suc g))
 
   -- a place at which the test holds is not before the first
-  pub first-least : (l : List A) (d : A) (k : ℕ) → t (get_or l k d) ≡ true → k < length l → firstWhere t l ≤ k
-  unfolding firstWhere
-  first-least [] d k e h = absurd (not-suc-le-zero h)
-  first-least (a ∷ l) d zero e h = rw e (omega arith)
-  first-least (a ∷ l) d (suc k) e h =
-      by_bool (t a) (λ u. rw u (omega arith)) (λ u. let g = first-least l d k e (le_of_suc-le-suc h) in rw u (omega arith))
+  pub first_least : (l : List A) (d : A) (k : ℕ) → t (get_or l k d) ≡ true → k < length l → first_where t l ≤ k
+  unfolding first_where
+  first_least [] d k e h = absurd (not-suc-le-zero h)
+  first_least (a ∷ l) d zero e h = rw e (omega arith)
+  first_least (a ∷ l) d (suc k) e h =
+      by_bool (t a) (λ u. rw u (omega arith)) (λ u. let g = first_least l d k e (le_of_suc-le-suc h) in rw u (omega arith))

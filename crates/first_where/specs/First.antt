@@ -3,6 +3,6 @@ use Rattle.std.specs.Prelude.{ℕ, suc, Bool, List, [], ◌∷◌}
 use Rattle.rules.specs.Choice.{if◌then◌else◌}
 
 -- the first place at which a test holds, and the list's length where it holds at none
-unfoldable pub firstWhere : {A : Type 0} → (A → Bool) → List A → ℕ
-firstWhere t [] = 0
-firstWhere t (a ∷ l) = if t a then 0 else suc (firstWhere t l)
+unfoldable pub first_where : {A : Type 0} → (A → Bool) → List A → ℕ
+first_where t [] = 0
+first_where t (a ∷ l) = if t a then 0 else suc (first_where t l)

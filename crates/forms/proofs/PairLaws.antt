@@ -10,53 +10,53 @@ use lib.ListN.{length, get_or, set, drop, drop_of_length-le, length-drop}
 use lib.Seq.{sets, drop-cons}
 use Rattle.memory.specs.Memory.{store}
 use Rattle.forms.specs.Numbers.{digit}
-use Rattle.forms.specs.Pairs.{allDigits, byte_of, bytes_of, decoded, decode}
+use Rattle.forms.specs.Pairs.{all_digits, byte_of, bytes_of, decoded, decode}
 
 -- what a character of the word says, with its digit in hand
-module _ (w : List ℕ) (i d : ℕ) (so_far : allDigits w ≡ allDigits (drop i w)) where
-  pub digits_more : i < length w → d ≡ digit (get_or w i 0) → d < 16 → allDigits w ≡ allDigits (drop (i + 1) w)
+module _ (w : List ℕ) (i d : ℕ) (so_far : all_digits w ≡ all_digits (drop i w)) where
+  pub digits_more : i < length w → d ≡ digit (get_or w i 0) → d < 16 → all_digits w ≡ all_digits (drop (i + 1) w)
   digits_more h is l =
-      let e : allDigits (drop i w) ≡ allDigits (drop (i + 1) w) = rw (add-one, drop-cons w i 0 h, ← is, lt-leb 16 d l) in
+      let e : all_digits (drop i w) ≡ all_digits (drop (i + 1) w) = rw (add-one, drop-cons w i 0 h, ← is, lt-leb 16 d l) in
       so_far ∙ e
 
-  pub digits-stop : i < length w → d ≡ digit (get_or w i 0) → 16 ≤ d → false ≡ allDigits w
-  digits-stop h is l =
-      let e : allDigits (drop i w) ≡ false = rw (drop-cons w i 0 h, ← is, le-leb 16 d l) in
+  pub digits_stop : i < length w → d ≡ digit (get_or w i 0) → 16 ≤ d → false ≡ all_digits w
+  digits_stop h is l =
+      let e : all_digits (drop i w) ≡ false = rw (drop-cons w i 0 h, ← is, le-leb 16 d l) in
       sym (so_far ∙ e)
 
-pub digits-end : (w : List ℕ) (i : ℕ) → allDigits w ≡ allDigits (drop i w) → length w ≤ i → true ≡ allDigits w
-digits-end w i so_far h = sym (rw (drop_of_length-le w {i = i} h) at so_far)
+pub digits_end : (w : List ℕ) (i : ℕ) → all_digits w ≡ all_digits (drop i w) → length w ≤ i → true ≡ all_digits w
+digits_end w i so_far h = sym (rw (drop_of_length-le w {i = i} h) at so_far)
 
 -- a turn of the loop that stores the bytes of the pairs
-pairs-turn : (m w : List ℕ) (n : ℕ) → n < length w / 2
+pairs_turn : (m w : List ℕ) (n : ℕ) → n < length w / 2
     → sets (set m n (byte_of (get_or w (2 * n) 0) (get_or w (2 * n + 1) 0))) (n + 1) (bytes_of (drop (2 * (n + 1)) w)) ≡ sets m n (bytes_of (drop (2 * n) w))
-pairs-turn m w n h =
+pairs_turn m w n h =
     let h1 : 2 * n < length w = omega arith in
     let h2 : suc (2 * n) < length w = omega arith in
     let e : 2 * (n + 1) ≡ suc (suc (2 * n)) = omega arith in
     rw (e, add-one (2 * n), add-one n, drop-cons w (2 * n) 0 h1, drop-cons w (suc (2 * n)) 0 h2)
 
-bytes-short : (s : List ℕ) → length s ≤ 1 → bytes_of s ≡ []
-bytes-short [] h = refl
-bytes-short (a ∷ []) h = refl
-bytes-short (a ∷ b ∷ s) h = absurd (omega arith)
+bytes_short : (s : List ℕ) → length s ≤ 1 → bytes_of s ≡ []
+bytes_short [] h = refl
+bytes_short (a ∷ []) h = refl
+bytes_short (a ∷ b ∷ s) h = absurd (omega arith)
 
-pub pairs-more : (m m' w all : List ℕ) (n b : ℕ) → n < length w / 2 → b ≡ byte_of (get_or w (2 * n) 0) (get_or w (2 * n + 1) 0)
+pub pairs_more : (m m' w all : List ℕ) (n b : ℕ) → n < length w / 2 → b ≡ byte_of (get_or w (2 * n) 0) (get_or w (2 * n + 1) 0)
     → m' ≡ store m n (b ∷ []) → sets m n (bytes_of (drop (2 * n) w)) ≡ all → sets m' (n + 1) (bytes_of (drop (2 * (n + 1)) w)) ≡ all
 unfolding store
-pairs-more m m' w all n b h e k so_far = rw (k, e) (pairs-turn m w n h ∙ so_far)
+pairs_more m m' w all n b h e k so_far = rw (k, e) (pairs_turn m w n h ∙ so_far)
 
-length-bytes : (w : List ℕ) → length w / 2 ≡ length (bytes_of w)
-length-bytes [] = refl
-length-bytes (a ∷ []) = refl
-length-bytes (a ∷ b ∷ w) =
+length_bytes : (w : List ℕ) → length w / 2 ≡ length (bytes_of w)
+length_bytes [] = refl
+length_bytes (a ∷ []) = refl
+length_bytes (a ∷ b ∷ w) =
     let e : suc (suc (length w)) / 2 ≡ suc (length w / 2) = omega arith in
-    e ∙ ap suc (length-bytes w)
+    e ∙ ap suc (length_bytes w)
 
 pub pairs_end : (m w out : List ℕ) (n count : ℕ) → count ≡ length w / 2 → count ≤ n → sets m n (bytes_of (drop (2 * n) w)) ≡ sets out 0 (bytes_of w)
     → decoded count m ≡ decode w out
 unfolding store decode
 pairs_end m w out n count k h so_far =
-    let e : bytes_of (drop (2 * n) w) ≡ [] = bytes-short (drop (2 * n) w) (omega (arith, length-drop (2 * n) w)) in
+    let e : bytes_of (drop (2 * n) w) ≡ [] = bytes_short (drop (2 * n) w) (omega (arith, length-drop (2 * n) w)) in
     let f : m ≡ sets out 0 (bytes_of w) = rw e at so_far in
-    rw (k, length-bytes w, f)
+    rw (k, length_bytes w, f)

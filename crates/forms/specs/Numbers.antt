@@ -16,16 +16,16 @@ digit c =
     16
 
 -- n, and then the digits of a base, the most significant first
-abbrev pub numberFrom : ℕ → ℕ → List ℕ → Number
-numberFrom base n [] = Is n
-numberFrom base n (c ∷ s) = if leb base (digit c) then Wrong else numberFrom base (n * base + digit c) s
+abbrev pub number_from : ℕ → ℕ → List ℕ → Number
+number_from base n [] = Is n
+number_from base n (c ∷ s) = if leb base (digit c) then Wrong else number_from base (n * base + digit c) s
 
 -- "1 to 8 digits"
 unfoldable pub number_of : ℕ → List ℕ → Number
 number_of base word =
     if eqb (length word) 0 then Wrong else
     if ltb 8 (length word) then Wrong else
-    numberFrom base 0 word
+    number_from base 0 word
 
 unfoldable pub hexadecimal : List ℕ → Number
 hexadecimal word = number_of 16 word

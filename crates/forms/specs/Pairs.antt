@@ -8,9 +8,9 @@ use Rattle.forms.specs.Numbers.{digit}
 use Rattle.words.specs.Words.{characters, is}
 
 -- every character is a hexadecimal digit
-abbrev pub allDigits : List ℕ → Bool
-allDigits [] = true
-allDigits (c ∷ s) = if leb 16 (digit c) then false else allDigits s
+abbrev pub all_digits : List ℕ → Bool
+all_digits [] = true
+all_digits (c ∷ s) = if leb 16 (digit c) then false else all_digits s
 
 -- how many bytes a word names: "pairs of hexadecimal digits, either case, or `-` for no bytes". No line holds a longer word
 unfoldable pub byte_count : List ℕ → Number
@@ -19,7 +19,7 @@ byte_count word =
     if eqb (length word) 0 then Wrong else
     if ltb 4096 (length word) then Wrong else
     if eqb (length word % 2) 1 then Wrong else
-    if not (allDigits word) then Wrong else
+    if not (all_digits word) then Wrong else
     Is (length word / 2)
 
 -- the byte of two digits. Of other characters it is some byte, which nobody asks for

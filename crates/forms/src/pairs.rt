@@ -1,12 +1,12 @@
 // Bytes in words: pairs of hexadecimal digits, or `-` for none.
 ghost use Rattle.std.specs.Prelude.{◌≡◌};
-ghost use Rattle.forms.specs.Pairs.{allDigits, byte_count, byte_of, decoded, decode};
+ghost use Rattle.forms.specs.Pairs.{all_digits, byte_count, byte_of, decoded, decode};
 
 use crate::numbers::{Number, digit};
 
 // Every character is a hexadecimal digit.
 fn all_digits(word: &[u8]) -> bool
-    ensures { result ≡ allDigits word.now }
+    ensures { result ≡ all_digits word.now }
 {
     let mut i = 0;
     while i < word.len() {

@@ -6,52 +6,52 @@ use Prim.Native.Nat.{ℕ, ◌≤◌, ◌<◌}
 use borrow.Author.Tests.{le-leb, lt-leb, eq-eqb, ne_eqb}
 use lib.Dec.{leb}
 use lib.ListN.{length}
-use Rattle.rules.proofs.Choices.{if_yes, if_no, is-and, said-not}
-use Rattle.fcs.specs.CheckSequence.{checkRight}
-use Rattle.frame.specs.Frame.{frameNumberBy}
-use Rattle.frame.specs.Length.{lengthAllowed}
+use Rattle.rules.proofs.Choices.{if_yes, if_no, is_and, said_not}
+use Rattle.fcs.specs.CheckSequence.{check_right}
+use Rattle.frame.specs.Frame.{frame_number_by}
+use Rattle.frame.specs.Length.{length_allowed}
 
 -- ---- length_allowed
 
-pub from-64 : (n : ℕ) → 64 ≤ n → leb n 1518 ≡ lengthAllowed n
-unfolding lengthAllowed
-from-64 n h = is-and (leb 64 n) (leb n 1518) (leb n 1518) (le-leb 64 n h) refl
+pub from_64 : (n : ℕ) → 64 ≤ n → leb n 1518 ≡ length_allowed n
+unfolding length_allowed
+from_64 n h = is_and (leb 64 n) (leb n 1518) (leb n 1518) (le-leb 64 n h) refl
 
-pub under_64 : (n : ℕ) → n < 64 → leb 64 n ≡ lengthAllowed n
-unfolding lengthAllowed
+pub under_64 : (n : ℕ) → n < 64 → leb 64 n ≡ length_allowed n
+unfolding length_allowed
 under_64 n h = rw (lt-leb 64 n h)
 
 -- ---- frame_number: rows 4, 5 and 6, in this order
 
-module _ (reason : ℕ) (f : List ℕ) (l : Bool) (el : l ≡ lengthAllowed (length f)) where
-  pub length-4 : not l ≡ true → 4 ≡ frameNumberBy reason f
-  unfolding frameNumberBy
-  length-4 nl = if_yes _ _ _ _ (said-not (lengthAllowed (length f)) l true el nl) refl
+module _ (reason : ℕ) (f : List ℕ) (l : Bool) (el : l ≡ length_allowed (length f)) where
+  pub length_4 : not l ≡ true → 4 ≡ frame_number_by reason f
+  unfolding frame_number_by
+  length_4 nl = if_yes _ _ _ _ (said_not (length_allowed (length f)) l true el nl) refl
 
-  module _ (r : Bool) (yl : not l ≡ false) (er : r ≡ checkRight f) where
-    pub check-5 : not r ≡ true → 5 ≡ frameNumberBy reason f
-    unfolding frameNumberBy
-    check-5 nr =
-        if_no _ _ _ _ (said-not (lengthAllowed (length f)) l false el yl) (
-        if_yes _ _ _ _ (said-not (checkRight f) r true er nr) refl)
+  module _ (r : Bool) (yl : not l ≡ false) (er : r ≡ check_right f) where
+    pub check_5 : not r ≡ true → 5 ≡ frame_number_by reason f
+    unfolding frame_number_by
+    check_5 nr =
+        if_no _ _ _ _ (said_not (length_allowed (length f)) l false el yl) (
+        if_yes _ _ _ _ (said_not (check_right f) r true er nr) refl)
 
     module _ (n : ℕ) (yr : not r ≡ false) (en : n ≡ reason) where
-      pub address-6 : n ≡ 0 → 6 ≡ frameNumberBy reason f
-      unfolding frameNumberBy
-      address-6 z =
+      pub address_6 : n ≡ 0 → 6 ≡ frame_number_by reason f
+      unfolding frame_number_by
+      address_6 z =
           rw (
-            said-not (lengthAllowed (length f)) l false el yl,
-            said-not (checkRight f) r false er yr,
+            said_not (length_allowed (length f)) l false el yl,
+            said_not (check_right f) r false er yr,
             ← en,
             eq-eqb n 0 z,
           )
 
-      pub none-met-0 : (n ≡ 0 → ⊥) → 0 ≡ frameNumberBy reason f
-      unfolding frameNumberBy
-      none-met-0 h =
+      pub none_met_0 : (n ≡ 0 → ⊥) → 0 ≡ frame_number_by reason f
+      unfolding frame_number_by
+      none_met_0 h =
           rw (
-            said-not (lengthAllowed (length f)) l false el yl,
-            said-not (checkRight f) r false er yr,
+            said_not (length_allowed (length f)) l false el yl,
+            said_not (check_right f) r false er yr,
             ← en,
             ne_eqb n 0 h,
           )

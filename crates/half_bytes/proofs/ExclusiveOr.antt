@@ -13,8 +13,8 @@ bit (suc zero) h = inr refl
 bit (suc (suc n)) h = absurd (omega arith)
 
 -- by the cases of three bits
-bits-assoc : (a b c : ℕ) → a < 2 → b < 2 → c < 2 → bit_xor (bit_xor a b) c ≡ bit_xor a (bit_xor b c)
-bits-assoc a b c ha hb hc =
+bits_assoc : (a b c : ℕ) → a < 2 → b < 2 → c < 2 → bit_xor (bit_xor a b) c ≡ bit_xor a (bit_xor b c)
+bits_assoc a b c ha hb hc =
     ⊎_elim (λ (p : a ≡ 0). rw p)
     (λ (p : a ≡ 1).
     ⊎_elim (λ (q : b ≡ 0). rw (p, q))
@@ -32,5 +32,5 @@ xor_assoc =
     (λ n ih b c.
     half (bit_xor n b) c
     ∙ ap₂ (λ (x y : ℕ). bit_xor x (c / 2) * 2 + bit_xor y (c % 2)) (xor_shr n b 1) (xor_mod n b 1)
-    ∙ ap₂ (λ (x y : ℕ). x * 2 + y) (ih (b / 2) (c / 2)) (bits-assoc (n % 2) (b % 2) (c % 2) (omega arith) (omega arith) (omega arith))
+    ∙ ap₂ (λ (x y : ℕ). x * 2 + y) (ih (b / 2) (c / 2)) (bits_assoc (n % 2) (b % 2) (c % 2) (omega arith) (omega arith) (omega arith))
     ∙ sym (half n (bit_xor b c) ∙ ap₂ (λ (x y : ℕ). bit_xor (n / 2) x * 2 + bit_xor (n % 2) y) (xor_shr b c 1) (xor_mod b c 1)))

@@ -13,9 +13,9 @@ clocks feedback zero r = r
 clocks feedback (suc n) r = clocks feedback n (clock feedback r)
 
 -- bytes enter, one behind the other: each is added to the register, and leaves it in eight single-bit steps
-abbrev pub bytesIn : ℕ → ℕ → List ℕ → ℕ
-bytesIn feedback r [] = r
-bytesIn feedback r (b ∷ bs) = bytesIn feedback (clocks feedback 8 (bit_xor r b)) bs
+abbrev pub bytes_in : ℕ → ℕ → List ℕ → ℕ
+bytes_in feedback r [] = r
+bytes_in feedback r (b ∷ bs) = bytes_in feedback (clocks feedback 8 (bit_xor r b)) bs
 
 -- the feedback of 802.3's register: G(x) without x^32, the coefficient of x^31 the least significant bit
 abbrev pub feedback802 : ℕ

@@ -9,5 +9,5 @@ tabulate f i zero = []
 tabulate f i (suc n) = f i ∷ tabulate f (suc i) n
 
 -- the 16 entries: entry i is the half byte i after four single-bit steps
-unfoldable pub halfBytes : ℕ → List ℕ
-halfBytes feedback = tabulate (clocks feedback 4) 0 16
+unfoldable pub half_bytes : ℕ → List ℕ
+half_bytes feedback = tabulate (clocks feedback 4) 0 16

@@ -1,12 +1,12 @@
 // The shift register of the check sequence, in half bytes: four single-bit steps at a time.
 ghost use Rattle.std.specs.Prelude.{◌≡◌};
 ghost use Rattle.std.specs.Int.Bits.{bit_xor};
-ghost use Rattle.half_bytes.specs.Clocks.{clocks, bytesIn, feedback802};
-ghost use Rattle.half_bytes.specs.HalfBytes.{halfBytes};
+ghost use Rattle.half_bytes.specs.Clocks.{clocks, bytes_in, feedback802};
+ghost use Rattle.half_bytes.specs.HalfBytes.{half_bytes};
 
 // Entry i is the half byte i after four single-bit steps.
 fn table() -> [u32; 16]
-    ensures { result ≡ halfBytes feedback802 }
+    ensures { result ≡ half_bytes feedback802 }
 {
     [
         0x0000_0000,
@@ -33,7 +33,7 @@ fn table() -> [u32; 16]
 // known without it, and the two are read side by side. The order of the terms is the fastest that was
 // found (docs/PERFORMANCE.md).
 fn byte_in(t: &[u32; 16], r: u32, b: u8) -> u32
-    requires { t.now ≡ halfBytes feedback802 }
+    requires { t.now ≡ half_bytes feedback802 }
     ensures { result ≡ clocks feedback802 8 (bit_xor r b) }
 {
     let x = r ^ (b as u32);
@@ -43,8 +43,8 @@ fn byte_in(t: &[u32; 16], r: u32, b: u8) -> u32
 
 // The register behind the bytes, by a lent table: where a table is made it is written to the stack.
 fn bytes_by(t: &[u32; 16], from: u32, bytes: &[u8]) -> u32
-    requires { t.now ≡ halfBytes feedback802 }
-    ensures { result ≡ bytesIn feedback802 from bytes.now }
+    requires { t.now ≡ half_bytes feedback802 }
+    ensures { result ≡ bytes_in feedback802 from bytes.now }
 {
     let mut r = from;
     let mut i = 0;
@@ -57,7 +57,7 @@ fn bytes_by(t: &[u32; 16], from: u32, bytes: &[u8]) -> u32
 
 // The register behind the bytes.
 pub fn bytes_in(from: u32, bytes: &[u8]) -> u32
-    ensures { result ≡ bytesIn feedback802 from bytes.now }
+    ensures { result ≡ bytes_in feedback802 from bytes.now }
 {
     let t = table();
     bytes_by(&t, from, bytes)

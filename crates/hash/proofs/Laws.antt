@@ -7,11 +7,11 @@ use lib.Dec.{eqb}
 use lib.ListN.{take}
 use borrow.Author.Tests.{eq-eqb, ne_eqb}
 use Rattle.fcs.specs.Polynomial.{low_bits}
-use Rattle.fcs.specs.CheckSequence.{checkNumber}
-use Rattle.fcs.specs.ShiftRegister.{allOnes}
+use Rattle.fcs.specs.CheckSequence.{check_number}
+use Rattle.fcs.specs.ShiftRegister.{all_ones}
 use Rattle.fcs.proofs.Register.{low_digit}
-use Rattle.fcs.proofs.WireOrder.{register-bits}
-use Rattle.hash.specs.Hash.{highestFirst, hashIndex, hashTable, hashAccepts}
+use Rattle.fcs.proofs.WireOrder.{register_bits_lem}
+use Rattle.hash.specs.Hash.{highest_first, hash_index, hash_table, hash_accepts}
 
 -- ---- The index
 
@@ -24,8 +24,8 @@ exchanged v =
 regrouped : (a b c d e f : ℕ) → a * 32 + b * 16 + c * 8 + d * 4 + e * 2 + f ≡ a * 32 + (b * 16 + (c * 8 + (d * 4 + (e * 2 + (f * 1 + 0)))))
 regrouped a b c d e f = omega arith
 
-first-six : (v : ℕ) → exchanged v ≡ highestFirst (take 6 (low_bits 32 v))
-first-six v =
+first_six : (v : ℕ) → exchanged v ≡ highest_first (take 6 (low_bits 32 v))
+first_six v =
     rw (
       low_digit v,
       low_digit (v / 2),
@@ -36,19 +36,19 @@ first-six v =
     )
     (regrouped (v % 2) (v / 2 % 2) (v / 2 / 2 % 2) (v / 2 / 2 / 2 % 2) (v / 2 / 2 / 2 / 2 % 2) (v / 2 / 2 / 2 / 2 / 2 % 2))
 
-pub index_is : (d : List ℕ) (c : ℕ) → c ≡ checkNumber d → exchanged (allOnes - c) ≡ hashIndex d
-unfolding hashIndex
-index_is d c e = rw (e, register-bits d) (first-six (allOnes - checkNumber d))
+pub index_is : (d : List ℕ) (c : ℕ) → c ≡ check_number d → exchanged (all_ones - c) ≡ hash_index d
+unfolding hash_index
+index_is d c e = rw (e, register_bits_lem d) (first_six (all_ones - check_number d))
 
 -- ---- The bit
 
-pub table-high : (high low i : ℕ) → i / 32 % 2 ≡ 1 → high ≡ hashTable high low i
-table-high high low i e = rw (eq-eqb (i / 32 % 2) 1 e)
+pub table_high : (high low i : ℕ) → i / 32 % 2 ≡ 1 → high ≡ hash_table high low i
+table_high high low i e = rw (eq-eqb (i / 32 % 2) 1 e)
 
-pub table-low : (high low i : ℕ) → (i / 32 % 2 ≡ 1 → ⊥) → low ≡ hashTable high low i
-table-low high low i n = rw (ne_eqb (i / 32 % 2) 1 n)
+pub table_low : (high low i : ℕ) → (i / 32 % 2 ≡ 1 → ⊥) → low ≡ hash_table high low i
+table_low high low i n = rw (ne_eqb (i / 32 % 2) 1 n)
 
-pub selected : (high low : ℕ) (d : List ℕ) (i t : ℕ) → i ≡ hashIndex d → t ≡ hashTable high low i
-    → eqb (t / 2 ^ (i % 32) % 2) 1 ≡ hashAccepts high low d
-unfolding hashAccepts
+pub selected : (high low : ℕ) (d : List ℕ) (i t : ℕ) → i ≡ hash_index d → t ≡ hash_table high low i
+    → eqb (t / 2 ^ (i % 32) % 2) 1 ≡ hash_accepts high low d
+unfolding hash_accepts
 selected high low d i t e f = rw (f, e)

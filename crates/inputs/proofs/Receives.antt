@@ -13,12 +13,12 @@ use Rattle.enet.specs.Frames.{receive}
 use Rattle.pair.specs.declared.Pair.{Pair}
 use Rattle.pair.specs.Pair.{pair, passes, bytes_of, received}
 use Rattle.pair.specs.Turn.{Bursting}
-use Rattle.burst.specs.Burst.{receives, pairsOf}
-use Rattle.burst.specs.Taken.{taken, framesInside, answersInside}
-use Rattle.burst.proofs.Turns.{number-receives}
-use Rattle.burst.proofs.Ways.{by-burst}
-use Rattle.calls.specs.Calls.{Bench, receiveCall, ofBurst, call}
-use Rattle.inputs.specs.Receives.{afterReceives, receiveAnswers, placed, SingleReceives, BurstReceives, afterPairs, PairAnswered, PairByPair}
+use Rattle.burst.specs.Burst.{receives, pairs_of}
+use Rattle.burst.specs.Taken.{taken, frames_inside, answers_inside}
+use Rattle.burst.proofs.Turns.{number_receives}
+use Rattle.burst.proofs.Ways.{by_burst}
+use Rattle.calls.specs.Calls.{Bench, receive_call, of_burst, call}
+use Rattle.inputs.specs.Receives.{after_receives, receive_answers, placed, SingleReceives, BurstReceives, after_pairs, PairAnswered, PairByPair}
 
 -- ---- one pair
 
@@ -35,59 +35,59 @@ inside d m store p e = rw e
 abbrev at : Enet → List ℕ → Bench
 at d m = record { device = d; memory = m }
 
-abbrev benchOf : Bursting → Bench
-benchOf r = at r.device r.memory
+abbrev bench_of : Bursting → Bench
+bench_of r = at r.device r.memory
 
 module _ (store : List ℕ) where
-  receives-bench : (ps : List Pair) (d : Enet) (m : List ℕ) → benchOf (receives d m store ps) ≡ afterReceives (at d m) (framesInside store ps)
-  unfolding receives framesInside afterReceives
-  receives-bench [] d m = refl
-  receives-bench (p ∷ ps) d m =
-      let rest : Outcome → Bench = λ o. benchOf (receives o.device o.memory store ps) in
+  receives_bench : (ps : List Pair) (d : Enet) (m : List ℕ) → bench_of (receives d m store ps) ≡ after_receives (at d m) (frames_inside store ps)
+  unfolding receives frames_inside after_receives
+  receives_bench [] d m = refl
+  receives_bench (p ∷ ps) d m =
+      let rest : Outcome → Bench = λ o. bench_of (receives o.device o.memory store ps) in
       let o = receive d m (bytes_of store p) in
       by_bool (passes store p)
-      (λ e. ap rest (past d m store p e) ∙ rw e (receives-bench ps d m))
-      (λ e. ap rest (inside d m store p e) ∙ rw e (receives-bench ps o.device o.memory))
+      (λ e. ap rest (past d m store p e) ∙ rw e (receives_bench ps d m))
+      (λ e. ap rest (inside d m store p e) ∙ rw e (receives_bench ps o.device o.memory))
 
-  receives-answers : (ps : List Pair) (d : Enet) (m : List ℕ)
-      → answersInside store ps (receives d m store ps).answers ≡ receiveAnswers (at d m) (framesInside store ps)
-  unfolding receives framesInside answersInside receiveAnswers
-  receives-answers [] d m = refl
-  receives-answers (p ∷ ps) d m =
-      let rest : Outcome → List ℕ = λ o. answersInside store (p ∷ ps) (o.number ∷ (receives o.device o.memory store ps).answers) in
+  receives_answers : (ps : List Pair) (d : Enet) (m : List ℕ)
+      → answers_inside store ps (receives d m store ps).answers ≡ receive_answers (at d m) (frames_inside store ps)
+  unfolding receives frames_inside answers_inside receive_answers
+  receives_answers [] d m = refl
+  receives_answers (p ∷ ps) d m =
+      let rest : Outcome → List ℕ = λ o. answers_inside store (p ∷ ps) (o.number ∷ (receives o.device o.memory store ps).answers) in
       let o = receive d m (bytes_of store p) in
       by_bool (passes store p)
-      (λ e. ap rest (past d m store p e) ∙ rw e (receives-answers ps d m))
-      (λ e. ap rest (inside d m store p e) ∙ rw e (ap (λ (ns : List ℕ). o.number ∷ ns) (receives-answers ps o.device o.memory)))
+      (λ e. ap rest (past d m store p e) ∙ rw e (receives_answers ps d m))
+      (λ e. ap rest (inside d m store p e) ∙ rw e (ap (λ (ns : List ℕ). o.number ∷ ns) (receives_answers ps o.device o.memory)))
 
-  receives-list : (ps : List Pair) (d : Enet) (m : List ℕ)
-      → (receives d m store ps).answers ≡ placed store ps (receiveAnswers (at d m) (framesInside store ps))
-  unfolding receives framesInside placed receiveAnswers
-  receives-list [] d m = refl
-  receives-list (p ∷ ps) d m =
+  receives_list : (ps : List Pair) (d : Enet) (m : List ℕ)
+      → (receives d m store ps).answers ≡ placed store ps (receive_answers (at d m) (frames_inside store ps))
+  unfolding receives frames_inside placed receive_answers
+  receives_list [] d m = refl
+  receives_list (p ∷ ps) d m =
       let rest : Outcome → List ℕ = λ o. o.number ∷ (receives o.device o.memory store ps).answers in
       let o = receive d m (bytes_of store p) in
       by_bool (passes store p)
-      (λ e. ap rest (past d m store p e) ∙ rw e (ap (λ (ns : List ℕ). 16 ∷ ns) (receives-list ps d m)))
-      (λ e. ap rest (inside d m store p e) ∙ rw e (ap (λ (ns : List ℕ). o.number ∷ ns) (receives-list ps o.device o.memory)))
+      (λ e. ap rest (past d m store p e) ∙ rw e (ap (λ (ns : List ℕ). 16 ∷ ns) (receives_list ps d m)))
+      (λ e. ap rest (inside d m store p e) ∙ rw e (ap (λ (ns : List ℕ). o.number ∷ ns) (receives_list ps o.device o.memory)))
 
 -- ---- the burst
 
 not_done : ◌≡◌ {A = ℕ} 16 0 → ⊥
 not_done z = omega arith
 
-pub single-receives : BurstReceives
-unfolding framesInside afterReceives receiveAnswers answersInside placed
-single-receives b store starts lengths answers =
-    by-burst (λ r ps. SingleReceives b store ps answers (ofBurst store ps r)) b.device b.memory store starts lengths answers
+pub single_receives_lem : BurstReceives
+unfolding frames_inside after_receives receive_answers answers_inside placed
+single_receives_lem b store starts lengths answers =
+    by_burst (λ r ps. SingleReceives b store ps answers (of_burst store ps r)) b.device b.memory store starts lengths answers
     (record { bench = refl; answers = refl; done = λ z. absurd (not_done z); refused = λ _. (refl, (refl, refl)) })
     (λ _ _.
-    let ps = pairsOf starts lengths in
+    let ps = pairs_of starts lengths in
     record {
-      bench = receives-bench store ps b.device b.memory;
-      answers = receives-answers store ps b.device b.memory;
-      done = λ _. receives-list store ps b.device b.memory;
-      refused = λ n. absurd (n (number-receives ps b.device b.memory store));
+      bench = receives_bench store ps b.device b.memory;
+      answers = receives_answers store ps b.device b.memory;
+      done = λ _. receives_list store ps b.device b.memory;
+      refused = λ n. absurd (n (number_receives ps b.device b.memory store));
     })
 
 -- ---- pair by pair
@@ -95,22 +95,22 @@ single-receives b store starts lengths answers =
 -- pair k of these, with the answers as they are placed
 abbrev At : List ℕ → List Pair → Bench → ℕ → Type 0
 At store ps b k =
-    PairAnswered store (get_or ps k (pair 0 0)) (afterPairs b store ps k) (afterPairs b store ps (suc k))
-    (get_or (placed store ps (receiveAnswers b (framesInside store ps))) k 0)
+    PairAnswered store (get_or ps k (pair 0 0)) (after_pairs b store ps k) (after_pairs b store ps (suc k))
+    (get_or (placed store ps (receive_answers b (frames_inside store ps))) k 0)
 
-first-pair : (store : List ℕ) (p : Pair) (ps : List Pair) (b : Bench) → At store (p ∷ ps) b 0
-unfolding framesInside afterReceives receiveAnswers placed
-first-pair store p ps b = record { past = λ e. rw e (refl, refl); inside = λ e. rw e (refl, refl) }
+first_pair : (store : List ℕ) (p : Pair) (ps : List Pair) (b : Bench) → At store (p ∷ ps) b 0
+unfolding frames_inside after_receives receive_answers placed
+first_pair store p ps b = record { past = λ e. rw e (refl, refl); inside = λ e. rw e (refl, refl) }
 
 at_pair : (store : List ℕ) (ps : List Pair) (b : Bench) (k : ℕ) → k < length ps → At store ps b k
-unfolding framesInside afterReceives receiveAnswers placed
+unfolding frames_inside after_receives receive_answers placed
 at_pair store [] b k l = absurd (not-suc-le-zero l)
-at_pair store (p ∷ ps) b zero l = first-pair store p ps b
+at_pair store (p ∷ ps) b zero l = first_pair store p ps b
 at_pair store (p ∷ ps) b (suc k) l =
     by_bool (passes store p)
     (λ e. rw e (at_pair store ps b k (omega arith)))
-    (λ e. rw e (at_pair store ps (call b (receiveCall (bytes_of store p))).bench k (omega arith)))
+    (λ e. rw e (at_pair store ps (call b (receive_call (bytes_of store p))).bench k (omega arith)))
 
-pub pair-by-pair : PairByPair
-pair-by-pair b store starts lengths answers z k l =
-    rw ((single-receives b store starts lengths answers).done z) (at_pair store (taken starts lengths answers) b k l)
+pub pair_by_pair : PairByPair
+pair_by_pair b store starts lengths answers z k l =
+    rw ((single_receives_lem b store starts lengths answers).done z) (at_pair store (taken starts lengths answers) b k l)

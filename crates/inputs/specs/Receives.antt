@@ -3,19 +3,19 @@ use Rattle.std.specs.Prelude.{ℕ, suc, ◌<◌, ◌≡◌, true, false, ◌≢�
 use Rattle.rules.specs.Choice.{if◌then◌else◌}
 use Rattle.pair.specs.declared.Pair.{Pair}
 use Rattle.pair.specs.Pair.{pair, passes, bytes_of}
-use Rattle.burst.specs.Taken.{taken, framesInside}
-use Rattle.calls.specs.Calls.{Bench, receiveCall, burstCall, Result, call}
+use Rattle.burst.specs.Taken.{taken, frames_inside}
+use Rattle.calls.specs.Calls.{Bench, receive_call, burst_call, Result, call}
 
 -- single receives of these frames, one behind the other: the bench that they leave ..
-unfoldable pub afterReceives : Bench → List (List ℕ) → Bench
-afterReceives b [] = b
-afterReceives b (frame ∷ frames) = afterReceives (call b (receiveCall frame)).bench frames
+unfoldable pub after_receives : Bench → List (List ℕ) → Bench
+after_receives b [] = b
+after_receives b (frame ∷ frames) = after_receives (call b (receive_call frame)).bench frames
 
 -- .. and their answers
-unfoldable pub receiveAnswers : Bench → List (List ℕ) → List ℕ
-receiveAnswers b [] = []
-receiveAnswers b (frame ∷ frames) =
-    (call b (receiveCall frame)).number ∷ receiveAnswers (call b (receiveCall frame)).bench frames
+unfoldable pub receive_answers : Bench → List (List ℕ) → List ℕ
+receive_answers b [] = []
+receive_answers b (frame ∷ frames) =
+    (call b (receive_call frame)).number ∷ receive_answers (call b (receive_call frame)).bench frames
 
 -- an answer for each pair: "A pair whose start plus length passes the store's end gets a new number 16 in its own place", and
 -- one inside the next of these answers
@@ -27,9 +27,9 @@ placed store (p ∷ ps) answers =
 -- "State, window and answers equal those of single receives." Of a burst that takes these pairs of the store, and whose answer
 -- list was so before
 pub record SingleReceives (b : Bench) (store : List ℕ) (pairs : List Pair) (before : List ℕ) (r : Result) : Type 0 where
-  pub bench : r.bench ≡ afterReceives b (framesInside store pairs)
-  pub answers : r.answers ≡ receiveAnswers b (framesInside store pairs)
-  pub done : r.number ≡ 0 → r.list ≡ placed store pairs (receiveAnswers b (framesInside store pairs))
+  pub bench : r.bench ≡ after_receives b (frames_inside store pairs)
+  pub answers : r.answers ≡ receive_answers b (frames_inside store pairs)
+  pub done : r.number ≡ 0 → r.list ≡ placed store pairs (receive_answers b (frames_inside store pairs))
   -- ".. refuses the whole call with 16, changing nothing": it takes no pair, so that `bench` above says b
   pub refused : r.number ≢ 0 → (r.number ≡ 16) × ((pairs ≡ []) × (r.list ≡ before))
 
@@ -37,13 +37,13 @@ pub record SingleReceives (b : Bench) (store : List ℕ) (pairs : List Pair) (be
 abbrev pub BurstReceives : Type 0
 BurstReceives =
     (b : Bench) (store starts lengths answers : List ℕ)
-    → SingleReceives b store (taken starts lengths answers) answers (call b (burstCall store starts lengths answers))
+    → SingleReceives b store (taken starts lengths answers) answers (call b (burst_call store starts lengths answers))
 
 -- ---- pair by pair
 
 -- the bench that the first k pairs leave, and so the one that pair k meets, counted from 0
-abbrev pub afterPairs : Bench → List ℕ → List Pair → ℕ → Bench
-afterPairs b store pairs k = afterReceives b (framesInside store (take k pairs))
+abbrev pub after_pairs : Bench → List ℕ → List Pair → ℕ → Bench
+after_pairs b store pairs k = after_receives b (frames_inside store (take k pairs))
 
 -- a pair of the store that meets one bench, leaves another and gets the answer n
 pub record PairAnswered (store : List ℕ) (p : Pair) (before after : Bench) (n : ℕ) : Type 0 where
@@ -51,16 +51,16 @@ pub record PairAnswered (store : List ℕ) (p : Pair) (before after : Bench) (n 
   pub past : passes store p ≡ true → (n ≡ 16) × (after ≡ before)
   -- a pair inside is a single receive of its bytes
   pub inside : passes store p ≡ false
-      → (n ≡ (call before (receiveCall (bytes_of store p))).number) × (after ≡ (call before (receiveCall (bytes_of store p))).bench)
+      → (n ≡ (call before (receive_call (bytes_of store p))).number) × (after ≡ (call before (receive_call (bytes_of store p))).bench)
 
 -- what is claimed of every pair of every burst that is not refused: of the store, the pair, the bench that it meets, the one that
 -- it leaves, and its answer
 abbrev pub EachPair : (List ℕ → Pair → Bench → Bench → ℕ → Type 0) → Type 0
 EachPair P =
-    (b : Bench) (store starts lengths answers : List ℕ) → (call b (burstCall store starts lengths answers)).number ≡ 0
+    (b : Bench) (store starts lengths answers : List ℕ) → (call b (burst_call store starts lengths answers)).number ≡ 0
     → (k : ℕ) → k < length (taken starts lengths answers)
-    → P store (get_or (taken starts lengths answers) k (pair 0 0)) (afterPairs b store (taken starts lengths answers) k)
-    (afterPairs b store (taken starts lengths answers) (suc k)) (get_or (call b (burstCall store starts lengths answers)).list k 0)
+    → P store (get_or (taken starts lengths answers) k (pair 0 0)) (after_pairs b store (taken starts lengths answers) k)
+    (after_pairs b store (taken starts lengths answers) (suc k)) (get_or (call b (burst_call store starts lengths answers)).list k 0)
 
 abbrev pub PairByPair : Type 0
 PairByPair = EachPair PairAnswered

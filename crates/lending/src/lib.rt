@@ -2,7 +2,7 @@
 ghost use Rattle.std.specs.Prelude.{◌≡◌, length};
 ghost use Rattle.forms.specs.Pairs.{named};
 ghost use Rattle.text.specs.Text.{written, put};
-ghost use Rattle.commands.specs.Answers.{given, tells, withDevice};
+ghost use Rattle.commands.specs.Answers.{given, tells, with_device};
 ghost use Rattle.commands.specs.Commands.{grant, frame, tick};
 ghost use Rattle.replies.specs.Replies.{numbered};
 
@@ -12,7 +12,7 @@ use forms::pairs;
 
 // The next device, and the line of a call that answers a number alone.
 pub fn answered(console: Console, a: Answered, name: &[u8], text: &mut [u8], at: usize) -> Told
-    ensures { (result.console ≡ withDevice console a.device) × (written result.end text.new ≡ put text.old at (numbered name.now a.number)) }
+    ensures { (result.console ≡ with_device console a.device) × (written result.end text.new ≡ put text.old at (numbered name.now a.number)) }
 {
     let n = a.number as u64;
     let end = replies::numbered(text, at, name, n);

@@ -33,34 +33,34 @@ module _ (i : Input) (chunk line line' s p : List ℕ) (d n kept parts : ℕ) (e
 
   -- the line feed stands in the chunk
   module _ (k : length chunk ≡ 65_536) (h : n < length s) where
-    feed-within : i.from + n < 65_536
-    feed-within = omega (arith, simp (length-take, length-drop) at (rw es at h))
+    feed_within : i.from + n < 65_536
+    feed_within = omega (arith, simp (length-take, length-drop) at (rw es at h))
 
-    pub feed-at : i.from + n < 2 ^ 64
-    feed-at = omega (arith, feed-within)
+    pub feed_at : i.from + n < 2 ^ 64
+    feed_at = omega (arith, feed_within)
 
-    pub feed-behind : i.from + n + 1 < 2 ^ 64
-    feed-behind = omega (arith, feed-within)
+    pub feed_behind : i.from + n + 1 < 2 ^ 64
+    feed_behind = omega (arith, feed_within)
 
   module _ (ep : p ≡ front n (drop 0 s)) (t : written kept line' ≡ put line i.kept p) (eq : parts ≡ i.parts - 1) where
-    put-here : written kept line' ≡ put line i.kept (front n s)
-    put-here = rw ep at t
+    put_here : written kept line' ≡ put line i.kept (front n s)
+    put_here = rw ep at t
 
-    pub part-ends : n < length s
+    pub part_ends : n < length s
         → taken (record { from = i.from + n + 1; to = i.to; kept = 0; ended = true; last = kept; parts = parts }) line' ≡ take i chunk line
     unfolding take
-    part-ends h = rw (← here, ← found, ← put-here, lt-ltb n (length s) h, eq)
+    part_ends h = rw (← here, ← found, ← put_here, lt-ltb n (length s) h, eq)
 
-    pub part-goes-on : length s ≤ n
+    pub part_goes_on : length s ≤ n
         → taken (record { from = 0; to = 0; kept = kept; ended = false; last = 0; parts = parts }) line' ≡ take i chunk line
     unfolding take
-    part-goes-on h = rw (← here, ← found, ← put-here, le-ltb n (length s) h, eq)
+    part_goes_on h = rw (← here, ← found, ← put_here, le-ltb n (length s) h, eq)
 
 -- ---- a read
 
 module _ (i : Input) (chunk : List ℕ) where
-  pub more-ended : i.ended ≡ true → More i i chunk chunk
-  more-ended h = record {
+  pub more_ended : i.ended ≡ true → More i i chunk chunk
+  more_ended h = record {
     next = if_yes i.ended i i (read i i.to) h refl;
     fits = λ e. absurd (true≢false (sym h ∙ e));
     stays = λ e. refl;
@@ -74,10 +74,10 @@ module _ (i : Input) (chunk : List ℕ) where
       stays = λ e. absurd (true≢false (sym e ∙ h));
     }
 
-    pub more-over : More i (over i) chunk chunk'
+    pub more_over : More i (over i) chunk chunk'
     unfolding read
-    more-over = read_more (over i) refl (omega arith)
+    more_over = read_more (over i) refl (omega arith)
 
-    pub more-refilled : (n : ℕ) → (n ≡ 0 → ⊥) → n ≤ length chunk' → More i (refilled i n) chunk chunk'
+    pub more_refilled : (n : ℕ) → (n ≡ 0 → ⊥) → n ≤ length chunk' → More i (refilled i n) chunk chunk'
     unfolding read
-    more-refilled n z l = read_more (refilled i n) (rw (ne_eqb n 0 z)) l
+    more_refilled n z l = read_more (refilled i n) (rw (ne_eqb n 0 z)) l

@@ -6,24 +6,24 @@ use native.Mathlib.Omega.{arith}
 use lib.Dec.{eqb, ltb}
 use lib.ListN.{length}
 use Rattle.rules.specs.Choice.{if◌then◌else◌}
-use Rattle.rules.proofs.Choices.{by-test}
+use Rattle.rules.proofs.Choices.{by_test}
 use Rattle.lines.specs.declared.Input.{Input}
-use Rattle.lines.specs.Taking.{Taken, left, beforeFeed, taken, take}
+use Rattle.lines.specs.Taking.{Taken, left, before_feed, taken, take}
 use Rattle.lines.specs.Reading.{over, refilled, read, More}
 
-part-counted : (i : Input) (chunk line : List ℕ) → (take i chunk line).input.parts ≡ i.parts - 1
+part_counted : (i : Input) (chunk line : List ℕ) → (take i chunk line).input.parts ≡ i.parts - 1
 unfolding take
-part-counted i chunk line =
-    by-test (λ (r : Input). r.parts ≡ i.parts - 1) (ltb (beforeFeed (left i chunk)) (length (left i chunk))) _ _ (λ e. refl) (λ e. refl)
+part_counted i chunk line =
+    by_test (λ (r : Input). r.parts ≡ i.parts - 1) (ltb (before_feed (left i chunk)) (length (left i chunk))) _ _ (λ e. refl) (λ e. refl)
 
-read-gives-none : (i : Input) (n : ℕ) → (read i n).parts ≤ i.parts
+read_gives_none : (i : Input) (n : ℕ) → (read i n).parts ≤ i.parts
 unfolding read
-read-gives-none i n = by-test (λ (r : Input). r.parts ≤ i.parts) (eqb n 0) (over i) (refilled i n) (λ e. omega arith) (λ e. omega arith)
+read_gives_none i n = by_test (λ (r : Input). r.parts ≤ i.parts) (eqb n 0) (over i) (refilled i n) (λ e. omega arith) (λ e. omega arith)
 
-pub turn-less : (i j k : Input) (chunk chunk' line line' : List ℕ) → 0 < i.parts → taken j line' ≡ take i chunk line → More j k chunk chunk'
+pub turn_less : (i j k : Input) (chunk chunk' line line' : List ℕ) → 0 < i.parts → taken j line' ≡ take i chunk line → More j k chunk chunk'
     → k.parts < i.parts
-turn-less i j k chunk chunk' line line' h e m =
-    let p : j.parts ≡ i.parts - 1 = ap (λ (x : Taken). x.input.parts) e ∙ part-counted i chunk line in
+turn_less i j k chunk chunk' line line' h e m =
+    let p : j.parts ≡ i.parts - 1 = ap (λ (x : Taken). x.input.parts) e ∙ part_counted i chunk line in
     let q : k.parts ≡ (if j.ended then j else read j k.to).parts = ap (λ (x : Input). x.parts) m.next in
-    let l : (if j.ended then j else read j k.to).parts ≤ j.parts = by-test (λ (x : Input). x.parts ≤ j.parts) j.ended j (read j k.to) (λ e. omega arith) (λ e. read-gives-none j k.to) in
+    let l : (if j.ended then j else read j k.to).parts ≤ j.parts = by_test (λ (x : Input). x.parts ≤ j.parts) j.ended j (read j k.to) (λ e. omega arith) (λ e. read_gives_none j k.to) in
     omega arith

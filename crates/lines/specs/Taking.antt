@@ -14,16 +14,16 @@ abbrev pub left : Input → List ℕ → List ℕ
 left i chunk = front (i.to - i.from) (drop i.from chunk)
 
 -- "A line ends at a line feed": so many characters stand before the first one, or all where there is none
-abbrev pub beforeFeed : List ℕ → ℕ
-beforeFeed s = index_of 10 s
+abbrev pub before_feed : List ℕ → ℕ
+before_feed s = index_of 10 s
 
 -- behind the line feed the next line begins
 abbrev pub ends : Input → ℕ → ℕ → Input
 ends i n kept = record { from = i.from + n + 1; to = i.to; kept = 0; ended = true; last = kept; parts = i.parts - 1 }
 
 -- without one the line goes on in the next chunk, and nothing is left of this one
-abbrev pub goesOn : Input → ℕ → Input
-goesOn i kept = record { from = 0; to = 0; kept = kept; ended = false; last = 0; parts = i.parts - 1 }
+abbrev pub goes_on : Input → ℕ → Input
+goes_on i kept = record { from = 0; to = 0; kept = kept; ended = false; last = 0; parts = i.parts - 1 }
 
 -- how far reading is behind a part, and the buffer of the line
 pub record Taken : Type 0 where
@@ -37,6 +37,6 @@ taken i line = record { input = i; line = line }
 unfoldable pub take : Input → List ℕ → List ℕ → Taken
 take i chunk line =
     let s = left i chunk in
-    let n = beforeFeed s in
+    let n = before_feed s in
     let t = put line i.kept (front n s) in
-    taken (if ltb n (length s) then ends i n t.end else goesOn i t.end) t.buffer
+    taken (if ltb n (length s) then ends i n t.end else goes_on i t.end) t.buffer

@@ -11,28 +11,28 @@ use Rattle.descriptor.specs.Descriptor.{next}
 use Rattle.links.specs.Links.{follow, NoneShared, Chain}
 
 module _ (base : ℕ) (m : List ℕ) where
-  pub follow-zero : (d : ℕ) → follow base m 0 d ≡ d
+  pub follow_zero : (d : ℕ) → follow base m 0 d ≡ d
   unfolding follow
-  follow-zero d = refl
+  follow_zero d = refl
 
-  pub follow-next : (k d : ℕ) → follow base m (suc k) d ≡ next base m (follow base m k d)
+  pub follow_next : (k d : ℕ) → follow base m (suc k) d ≡ next base m (follow base m k d)
   unfolding follow
-  follow-next zero d = refl
-  follow-next (suc k) d = follow-next k (next base m d)
+  follow_next zero d = refl
+  follow_next (suc k) d = follow_next k (next base m d)
 
-  pub follow-add : (t k d : ℕ) → follow base m k (follow base m t d) ≡ follow base m (t + k) d
+  pub follow_add : (t k d : ℕ) → follow base m k (follow base m t d) ≡ follow base m (t + k) d
   unfolding follow
-  follow-add zero k d = rw zero-add
-  follow-add (suc t) k d = rw suc-add (follow-add t k (next base m d))
+  follow_add zero k d = rw zero-add
+  follow_add (suc t) k d = rw suc-add (follow_add t k (next base m d))
 
 -- ---- regions
 
-pub none-shared : (a n b k : ℕ) → Apart a n b k → NoneShared a n b k
-none-shared a n b k h i j l u e = ⊎_elim (λ x. omega arith) (λ x. omega arith) h
+pub none_shared : (a n b k : ℕ) → Apart a n b k → NoneShared a n b k
+none_shared a n b k h i j l u e = ⊎_elim (λ x. omega arith) (λ x. omega arith) h
 
 -- of regions that are not empty, the two say the same
-pub shared-apart : (a n b k : ℕ) → 0 < n → 0 < k → NoneShared a n b k → Apart a n b k
-shared-apart a n b k some some' h = go (dec_lt b (a + n)) (dec_lt a (b + k))
+pub shared_apart : (a n b k : ℕ) → 0 < n → 0 < k → NoneShared a n b k → Apart a n b k
+shared_apart a n b k some some' h = go (dec_lt b (a + n)) (dec_lt a (b + k))
   where
     go : Dec (b < a + n) → Dec (a < b + k) → Apart a n b k
     go (no x) y = inl (omega arith)

@@ -6,9 +6,9 @@ use native.Mathlib.Omega.{arith}
 use Rattle.memory.specs.Memory.{word}
 use Rattle.window.specs.Window.{offset}
 use Rattle.address.specs.Address.{place_of}
-use Rattle.descriptor.specs.Descriptor.{count, nextEnabled, start, next, nextWord}
+use Rattle.descriptor.specs.Descriptor.{count, next_enabled, start, next, next_word}
 use Rattle.links.specs.Links.{follow, Chain, Ends, Closed}
-use Rattle.links.proofs.Follow.{follow-zero, follow-next}
+use Rattle.links.proofs.Follow.{follow_zero, follow_next}
 
 -- the control, start and next words of n descriptors
 pub record SameWords (base : ℕ) (m m' : List ℕ) (n first : ℕ) : Type 0 where
@@ -17,22 +17,22 @@ pub record SameWords (base : ℕ) (m m' : List ℕ) (n first : ℕ) : Type 0 whe
   pub next : (k : ℕ) → k < n → word m' (offset base (follow base m k first) + 8) ≡ word m (offset base (follow base m k first) + 8)
 
 module _ {base : ℕ} {m m' : List ℕ} {n first : ℕ} (s : SameWords base m m' n first) where
-  pub follow-same : (k : ℕ) → k ≤ n → follow base m' k first ≡ follow base m k first
-  unfolding next nextWord
-  follow-same zero l = follow-zero base m' first ∙ sym (follow-zero base m first)
-  follow-same (suc k) l =
-      follow-next base m' k first
-      ∙ ap (next base m') (follow-same k (omega arith))
+  pub follow_same : (k : ℕ) → k ≤ n → follow base m' k first ≡ follow base m k first
+  unfolding next next_word
+  follow_same zero l = follow_zero base m' first ∙ sym (follow_zero base m first)
+  follow_same (suc k) l =
+      follow_next base m' k first
+      ∙ ap (next base m') (follow_same k (omega arith))
       ∙ ap place_of (s.next k l)
-      ∙ sym (follow-next base m k first)
+      ∙ sym (follow_next base m k first)
 
-  enabled-same : (k : ℕ) → k < n → nextEnabled base m' (follow base m' k first) ≡ nextEnabled base m (follow base m k first)
-  unfolding nextEnabled
-  enabled-same k l = rw (follow-same k (omega arith), s.control k l)
+  enabled_same : (k : ℕ) → k < n → next_enabled base m' (follow base m' k first) ≡ next_enabled base m (follow base m k first)
+  unfolding next_enabled
+  enabled_same k l = rw (follow_same k (omega arith), s.control k l)
 
-  start-same : (k : ℕ) → k < n → start base m' (follow base m k first) ≡ start base m (follow base m k first)
+  start_same : (k : ℕ) → k < n → start base m' (follow base m k first) ≡ start base m (follow base m k first)
   unfolding start
-  start-same k l = s.start k l
+  start_same k l = s.start k l
 
   count_same : (k : ℕ) → k < n → count base m' (follow base m k first) ≡ count base m (follow base m k first)
   unfolding count
@@ -41,21 +41,21 @@ module _ {base : ℕ} {m m' : List ℕ} {n first : ℕ} (s : SameWords base m m'
   pub chain_same : Chain base m n first → Chain base m' n first
   chain_same c = record {
     some = c.some;
-    linked = λ k l. enabled-same k (omega arith) ∙ c.linked k l;
+    linked = λ k l. enabled_same k (omega arith) ∙ c.linked k l;
     clear = λ i j l u ne.
         let x = c.clear i j l u ne in
-        rw (follow-same i (omega arith), follow-same j (omega arith)) (record {
+        rw (follow_same i (omega arith), follow_same j (omega arith)) (record {
           descriptor = x.descriptor;
-          buffer = rw (start-same j u, count_same j u) x.buffer;
+          buffer = rw (start_same j u, count_same j u) x.buffer;
         });
   }
 
   pub ends_same : Ends base m n first → Ends base m' n first
-  ends_same e = record { chain = chain_same e.chain; last = λ k l. enabled-same k (omega arith) ∙ e.last k l }
+  ends_same e = record { chain = chain_same e.chain; last = λ k l. enabled_same k (omega arith) ∙ e.last k l }
 
   pub closed_same : Closed base m n first → Closed base m' n first
   closed_same c = record {
     chain = chain_same c.chain;
-    last = λ k l. enabled-same k (omega arith) ∙ c.last k l;
-    again = follow-same n (omega arith) ∙ c.again;
+    last = λ k l. enabled_same k (omega arith) ∙ c.last k l;
+    again = follow_same n (omega arith) ∙ c.again;
   }

@@ -1,7 +1,7 @@
 -- Descriptors in a row by their next words: 01, "Sound ring" and "Histories"; 02, wishes 12 and 14. Each definition takes the
 -- window's base and the lent memory. Assumes nothing.
 use Rattle.std.specs.Prelude.{ℕ, zero, suc, ◌+◌, ◌<◌, ◌≡◌, ◌≢◌, true, false, List}
-use Rattle.descriptor.specs.Descriptor.{count, nextEnabled, start, next}
+use Rattle.descriptor.specs.Descriptor.{count, next_enabled, start, next}
 
 -- "following the next words": the descriptor k next words on from d
 unfoldable pub follow : ℕ → List ℕ → ℕ → ℕ → ℕ
@@ -21,17 +21,17 @@ pub record Clear (base : ℕ) (m : List ℕ) (c d : ℕ) : Type 0 where
 pub record Chain (base : ℕ) (m : List ℕ) (n first : ℕ) : Type 0 where
   pub some : 0 < n
   -- "reached from the current one by enabled next words"
-  pub linked : (k : ℕ) → suc k < n → nextEnabled base m (follow base m k first) ≡ true
+  pub linked : (k : ℕ) → suc k < n → next_enabled base m (follow base m k first) ≡ true
   -- ".. distinct .. descriptors, each apart from all others and their buffers"
   pub clear : (i j : ℕ) → i < n → j < n → i ≢ j → Clear base m (follow base m i first) (follow base m j first)
 
 -- ".. ending": its last has no next-enable
 pub record Ends (base : ℕ) (m : List ℕ) (n first : ℕ) : Type 0 where
   pub chain : Chain base m n first
-  pub last : (k : ℕ) → suc k ≡ n → nextEnabled base m (follow base m k first) ≡ false
+  pub last : (k : ℕ) → suc k ≡ n → next_enabled base m (follow base m k first) ≡ false
 
 -- ".. or closing a ring": "that many distinct descriptors and then the first again"
 pub record Closed (base : ℕ) (m : List ℕ) (n first : ℕ) : Type 0 where
   pub chain : Chain base m n first
-  pub last : (k : ℕ) → suc k ≡ n → nextEnabled base m (follow base m k first) ≡ true
+  pub last : (k : ℕ) → suc k ≡ n → next_enabled base m (follow base m k first) ≡ true
   pub again : follow base m n first ≡ first

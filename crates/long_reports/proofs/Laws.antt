@@ -9,37 +9,37 @@ use Rattle.fields.specs.Fields.{number, value, bytes}
 use Rattle.replies.specs.Replies.{newline}
 use Rattle.long_reports.specs.LongReports.{counts, ran, engine, engines}
 
-pub ran-is : (t t₁ t₂ t₃ : List ℕ) (at end₁ end₂ end₃ : ℕ) (name : List ℕ) (n steps count : ℕ) (s : List ℕ) (x : Text)
+pub ran_is : (t t₁ t₂ t₃ : List ℕ) (at end₁ end₂ end₃ : ℕ) (name : List ℕ) (n steps count : ℕ) (s : List ℕ) (x : Text)
     → written end₁ t₁ ≡ put t at name → written end₂ t₂ ≡ put t₁ end₁ (counts n steps count) → written end₃ t₃ ≡ put t₂ end₂ (bytes s)
     → x ≡ put t₃ end₃ newline → x ≡ put t at (ran name n steps count s)
 unfolding ran
-ran-is t t₁ t₂ t₃ at end₁ end₂ end₃ name n steps count s x e₁ e₂ e₃ h =
+ran_is t t₁ t₂ t₃ at end₁ end₂ end₃ name n steps count s x e₁ e₂ e₃ h =
     let f = put_then t t₁ at end₁ name (counts n steps count) (written end₂ t₂) e₁ e₂ in
     let g = put_then t t₂ at end₂ (name ++ counts n steps count) (bytes s) (written end₃ t₃) f e₃ in
     put_then t t₃ at end₃ (name ++ counts n steps count ++ bytes s) newline x g h
 
-pub counts-is : (t t₁ t₂ : List ℕ) (at end₁ end₂ n steps count : ℕ) (x : Text) → written end₁ t₁ ≡ put t at (number n)
+pub counts_is : (t t₁ t₂ : List ℕ) (at end₁ end₂ n steps count : ℕ) (x : Text) → written end₁ t₁ ≡ put t at (number n)
     → written end₂ t₂ ≡ put t₁ end₁ (number steps) → x ≡ put t₂ end₂ (number count) → x ≡ put t at (counts n steps count)
 unfolding counts
-counts-is t t₁ t₂ at end₁ end₂ n steps count x e₁ e₂ h =
+counts_is t t₁ t₂ at end₁ end₂ n steps count x e₁ e₂ h =
     let f = put_then t t₁ at end₁ (number n) (number steps) (written end₂ t₂) e₁ e₂ in
     put_then t t₂ at end₂ (number n ++ number steps) (number count) x f h
 
-pub engines-is : (t t₁ t₂ t₃ : List ℕ) (at end₁ end₂ end₃ : ℕ) (name : List ℕ) (rx tx : Bool) (p q : ℕ) (x : Text) → written end₁ t₁ ≡ put t at name
+pub engines_is : (t t₁ t₂ t₃ : List ℕ) (at end₁ end₂ end₃ : ℕ) (name : List ℕ) (rx tx : Bool) (p q : ℕ) (x : Text) → written end₁ t₁ ≡ put t at name
     → written end₂ t₂ ≡ put t₁ end₁ (engine rx p) → written end₃ t₃ ≡ put t₂ end₂ (engine tx q) → x ≡ put t₃ end₃ newline
     → x ≡ put t at (engines name rx p tx q)
 unfolding engines
-engines-is t t₁ t₂ t₃ at end₁ end₂ end₃ name rx tx p q x e₁ e₂ e₃ h =
+engines_is t t₁ t₂ t₃ at end₁ end₂ end₃ name rx tx p q x e₁ e₂ e₃ h =
     let f = put_then t t₁ at end₁ name (engine rx p) (written end₂ t₂) e₁ e₂ in
     let g = put_then t t₂ at end₂ (name ++ engine rx p) (engine tx q) (written end₃ t₃) f e₃ in
     put_then t t₃ at end₃ (name ++ engine rx p ++ engine tx q) newline x g h
 
 -- an engine that runs, and one that does not
 module _ (t t₁ : List ℕ) (at end₁ place : ℕ) (running : Bool) (x : Text) (h : x ≡ put t₁ end₁ (value place)) where
-  pub engine-runs : running ≡ true → written end₁ t₁ ≡ put t at (number 1) → x ≡ put t at (engine running place)
+  pub engine_runs : running ≡ true → written end₁ t₁ ≡ put t at (number 1) → x ≡ put t at (engine running place)
   unfolding engine
-  engine-runs r e = rw r (put_then t t₁ at end₁ (number 1) (value place) x e h)
+  engine_runs r e = rw r (put_then t t₁ at end₁ (number 1) (value place) x e h)
 
-  pub engine-stands : running ≡ false → written end₁ t₁ ≡ put t at (number 0) → x ≡ put t at (engine running place)
+  pub engine_stands : running ≡ false → written end₁ t₁ ≡ put t at (number 0) → x ≡ put t at (engine running place)
   unfolding engine
-  engine-stands r e = rw r (put_then t t₁ at end₁ (number 0) (value place) x e h)
+  engine_stands r e = rw r (put_then t t₁ at end₁ (number 0) (value place) x e h)

@@ -7,7 +7,7 @@ use native.Mathlib.Omega.{arith}
 use native.Mathlib.Nat.{add-zero, add-suc, suc-add, not-suc-le-zero}
 use lib.ListN.{length, get_or, take, drop, set, length-set, length-take, length-drop}
 use lib.Seq.{sets, length-sets, get_or-set_other, get_or-set_same, ext_get_or, get_or-take, get_or-drop}
-use Rattle.memory.specs.Memory.{word, word_bytes, store, storeWord}
+use Rattle.memory.specs.Memory.{word, word_bytes, store, store_word}
 
 -- n bytes from a on and k bytes from b on share none
 abbrev pub Apart : ℕ → ℕ → ℕ → ℕ → Type 0
@@ -25,68 +25,68 @@ back (x ∷ s) m i zero h fits = rw add-zero (out s (set m i x) (suc i) i (inl (
 back (x ∷ s) m i (suc k) h fits =
     rw (add-suc i k, ← suc-add i k) (back s (set m i x) (suc i) k (omega arith) (rw (length-set m i x) (omega arith)))
 
-pub length-word-bytes : (v : ℕ) → length (word_bytes v) ≡ 4
+pub length_word_bytes : (v : ℕ) → length (word_bytes v) ≡ 4
 unfolding word_bytes
-length-word-bytes v = refl
+length_word_bytes v = refl
 
 module _ (m : List ℕ) (at : ℕ) (s : List ℕ) where
-  pub length-store : length (store m at s) ≡ length m
+  pub length_store : length (store m at s) ≡ length m
   unfolding store
-  length-store = length-sets m at s
+  length_store = length-sets m at s
 
   -- a byte apart from a store
-  pub byte-apart : (j : ℕ) → Apart j 1 at (length s) → get_or (store m at s) j 0 ≡ get_or m j 0
+  pub byte_apart : (j : ℕ) → Apart j 1 at (length s) → get_or (store m at s) j 0 ≡ get_or m j 0
   unfolding store
-  byte-apart j h = out s m at j h
+  byte_apart j h = out s m at j h
 
   -- a byte of a store
-  pub byte-back : (k : ℕ) → k < length s → at + length s ≤ length m → get_or (store m at s) (at + k) 0 ≡ get_or s k 0
+  pub byte_back : (k : ℕ) → k < length s → at + length s ≤ length m → get_or (store m at s) (at + k) 0 ≡ get_or s k 0
   unfolding store
-  byte-back k h fits = back s m at k h fits
+  byte_back k h fits = back s m at k h fits
 
   -- a word apart from a store
-  pub word-apart : (j : ℕ) → Apart j 4 at (length s) → word (store m at s) j ≡ word m j
+  pub word_apart : (j : ℕ) → Apart j 4 at (length s) → word (store m at s) j ≡ word m j
   unfolding word
-  word-apart j h =
+  word_apart j h =
       let z0 : Apart j 1 at (length s) = ⊎_elim (λ a. inl (omega arith)) (λ a. inr (omega arith)) h in
       let z : (k : ℕ) → k < 4 → Apart (j + k) 1 at (length s) = λ k l. ⊎_elim (λ a. inl (omega arith)) (λ a. inr (omega arith)) h in
-      rw (byte-apart j z0, byte-apart (j + 1) (z 1 (omega arith)), byte-apart (j + 2) (z 2 (omega arith)), byte-apart (j + 3) (z 3 (omega arith)))
+      rw (byte_apart j z0, byte_apart (j + 1) (z 1 (omega arith)), byte_apart (j + 2) (z 2 (omega arith)), byte_apart (j + 3) (z 3 (omega arith)))
 
   -- n bytes apart from a store
   pub part_apart : (j n : ℕ) → Apart j n at (length s) → take n (drop j (store m at s)) ≡ take n (drop j m)
   part_apart j n h =
-      ext_get_or 0 _ _ (simp (length-take, length-drop, length-store))
+      ext_get_or 0 _ _ (simp (length-take, length-drop, length_store))
       (λ k l.
       let l2 : k < n = omega (arith, rw length-take at l) in
       rw (get_or-take n (drop j (store m at s)) k 0, get_or-take n (drop j m) k 0, get_or-drop j (store m at s) k 0, get_or-drop j m k 0)
-      (byte-apart (j + k) (⊎_elim (λ a. inl (omega arith)) (λ a. inr (omega arith)) h)))
+      (byte_apart (j + k) (⊎_elim (λ a. inl (omega arith)) (λ a. inr (omega arith)) h)))
 
   -- what was stored
-  pub part-back : at + length s ≤ length m → take (length s) (drop at (store m at s)) ≡ s
-  part-back fits =
-      let same : length (take (length s) (drop at (store m at s))) ≡ length s = simp (length-take, length-drop, length-store) (omega arith) in
+  pub part_back : at + length s ≤ length m → take (length s) (drop at (store m at s)) ≡ s
+  part_back fits =
+      let same : length (take (length s) (drop at (store m at s))) ≡ length s = simp (length-take, length-drop, length_store) (omega arith) in
       ext_get_or 0 (take (length s) (drop at (store m at s))) s same
       (λ k l.
-      rw (get_or-take (length s) (drop at (store m at s)) k 0 (omega arith), get_or-drop at (store m at s) k 0) (byte-back k (omega arith) fits))
+      rw (get_or-take (length s) (drop at (store m at s)) k 0 (omega arith), get_or-drop at (store m at s) k 0) (byte_back k (omega arith) fits))
 
-sets-append : (a b m : List ℕ) (at : ℕ) → sets (sets m at a) (at + length a) b ≡ sets m at (a ++ b)
-sets-append [] b m at = rw add-zero
-sets-append (x ∷ a) b m at = rw (add-suc at (length a), ← suc-add at (length a)) (sets-append a b (set m at x) (suc at))
+sets_append : (a b m : List ℕ) (at : ℕ) → sets (sets m at a) (at + length a) b ≡ sets m at (a ++ b)
+sets_append [] b m at = rw add-zero
+sets_append (x ∷ a) b m at = rw (add-suc at (length a), ← suc-add at (length a)) (sets_append a b (set m at x) (suc at))
 
 -- a store right behind another
-pub store-append : (m : List ℕ) (at next : ℕ) (a b : List ℕ) → next ≡ at + length a → store (store m at a) next b ≡ store m at (a ++ b)
+pub store_append : (m : List ℕ) (at next : ℕ) (a b : List ℕ) → next ≡ at + length a → store (store m at a) next b ≡ store m at (a ++ b)
 unfolding store
-store-append m at next a b e = rw e (sets-append a b m at)
+store_append m at next a b e = rw e (sets_append a b m at)
 
 -- a word of 32 bits reads back
-pub word_back : (m : List ℕ) (at v : ℕ) → v < 2 ^ 32 → at + 4 ≤ length m → word (storeWord m at v) at ≡ v
+pub word_back : (m : List ℕ) (at v : ℕ) → v < 2 ^ 32 → at + 4 ≤ length m → word (store_word m at v) at ≡ v
 unfolding word word_bytes
 word_back m at v small fits =
-    let b0 : get_or (storeWord m at v) (at + 0) 0 ≡ v % 256 = byte-back m at (word_bytes v) 0 (omega arith) fits in
-    let b1 : get_or (storeWord m at v) (at + 1) 0 ≡ v / 256 % 256 = byte-back m at (word_bytes v) 1 (omega arith) fits in
-    let b2 : get_or (storeWord m at v) (at + 2) 0 ≡ v / 256 / 256 % 256 = byte-back m at (word_bytes v) 2 (omega arith) fits in
-    let b3 : get_or (storeWord m at v) (at + 3) 0 ≡ v / 256 / 256 / 256 % 256 = byte-back m at (word_bytes v) 3 (omega arith) fits in
-    let c0 : get_or (storeWord m at v) at 0 ≡ v % 256 = rw add-zero at b0 in
+    let b0 : get_or (store_word m at v) (at + 0) 0 ≡ v % 256 = byte_back m at (word_bytes v) 0 (omega arith) fits in
+    let b1 : get_or (store_word m at v) (at + 1) 0 ≡ v / 256 % 256 = byte_back m at (word_bytes v) 1 (omega arith) fits in
+    let b2 : get_or (store_word m at v) (at + 2) 0 ≡ v / 256 / 256 % 256 = byte_back m at (word_bytes v) 2 (omega arith) fits in
+    let b3 : get_or (store_word m at v) (at + 3) 0 ≡ v / 256 / 256 / 256 % 256 = byte_back m at (word_bytes v) 3 (omega arith) fits in
+    let c0 : get_or (store_word m at v) at 0 ≡ v % 256 = rw add-zero at b0 in
     rw (c0, b1, b2, b3) (omega arith)
 
 -- a word of the same four bytes

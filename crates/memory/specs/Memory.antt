@@ -20,5 +20,5 @@ unfoldable pub store : List ℕ → ℕ → List ℕ → List ℕ
 store m at s = sets m at s
 
 -- m with the word v stored at an offset
-abbrev pub storeWord : List ℕ → ℕ → ℕ → List ℕ
-storeWord m at v = store m at (word_bytes v)
+abbrev pub store_word : List ℕ → ℕ → ℕ → List ℕ
+store_word m at v = store m at (word_bytes v)

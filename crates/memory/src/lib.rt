@@ -1,7 +1,7 @@
 // Little-endian 32-bit words and runs of bytes in lent memory. Every function is total: a byte past the end
 // reads 0, and a store past the end does nothing.
 ghost use Rattle.std.specs.Prelude.{◌≤◌, ◌⊎◌, ◌≡◌, get_or, set, take, drop};
-ghost use Rattle.memory.specs.Memory.{word_of, word, storeWord, store};
+ghost use Rattle.memory.specs.Memory.{word_of, word, store_word, store};
 
 // The byte at an offset.
 pub fn byte(m: &[u8], at: usize) -> u8
@@ -43,7 +43,7 @@ fn store_byte(m: &mut [u8], at: usize, b: u8)
 
 // Stores a word at an offset.
 pub fn store_word(m: &mut [u8], at: usize, v: u32)
-    ensures { m.new ≡ storeWord m.old at v }
+    ensures { m.new ≡ store_word m.old at v }
 {
     if m.len() <= at {
         return;

@@ -7,19 +7,19 @@ use lib.Dec.{eqb, ltb}
 use lib.ListN.{length}
 use Rattle.rules.specs.Choice.{if◌then◌else◌}
 use Rattle.fcs.specs.Bytes.{same}
-use Rattle.hash.specs.Hash.{hashAccepts}
-use Rattle.hash.proofs.Meaning.{ones-accept, zeros-refuse}
+use Rattle.hash.specs.Hash.{hash_accepts}
+use Rattle.hash.proofs.Meaning.{ones_accept, zeros_refuse}
 use Rattle.reason.specs.declared.Reason.{Reason}
 use Rattle.reason.specs.declared.Reason.TheVariants.{NotTaken, Own, Broadcast, Group, ReceiveAll}
-use Rattle.reason.specs.Reason.{reasonNumber}
-use Rattle.filter.specs.Meaning.{stationAddress}
-use Rattle.address_rule.specs.AddressRule.{destination, broadcast, toGroup, groupRule, firstMet}
+use Rattle.reason.specs.Reason.{reason_number}
+use Rattle.filter.specs.Meaning.{station_address}
+use Rattle.address_rule.specs.AddressRule.{destination, broadcast, to_group, group_rule, first_met}
 use Rattle.modes.specs.Modes.{HashTakesAs, OnesAsAllMulticast, ZerosAsNoMulticast}
 
 -- the group branch by its parts: filter mode, hash registers, destination
 abbrev group : ℕ → ℕ → ℕ → List ℕ → Reason
 group mode high low address =
-    if eqb mode 1 then (if hashAccepts high low address then Group else NotTaken) else
+    if eqb mode 1 then (if hash_accepts high low address then Group else NotTaken) else
     if eqb mode 5 then Group else
     NotTaken
 
@@ -29,23 +29,23 @@ rule all grouped station frame =
     if ltb (length frame) 6 then NotTaken else
     if all then ReceiveAll else
     if same (destination frame) broadcast then Broadcast else
-    if toGroup frame then grouped else
+    if to_group frame then grouped else
     if same (destination frame) station then Own else
     NotTaken
 
-as-mode : (v mode : ℕ) → eqb mode 1 ≡ false → ((address : List ℕ) → hashAccepts v v address ≡ eqb mode 5) → HashTakesAs v mode
-unfolding firstMet
-as-mode v mode other h f g one hashed high low m frame =
+as_mode : (v mode : ℕ) → eqb mode 1 ≡ false → ((address : List ℕ) → hash_accepts v v address ≡ eqb mode 5) → HashTakesAs v mode
+unfolding first_met
+as_mode v mode other h f g one hashed high low m frame =
     let d = destination frame in
     let t : Reason = if eqb mode 5 then Group else NotTaken in
-    let e : groupRule f d ≡ t = (λ j. group (hashed j) (high j) (low j) d) ∙ ap (λ (x : Bool). if x then Group else NotTaken) (h d) in
-    let k : groupRule g d ≡ t =
+    let e : group_rule f d ≡ t = (λ j. group (hashed j) (high j) (low j) d) ∙ ap (λ (x : Bool). if x then Group else NotTaken) (h d) in
+    let k : group_rule g d ≡ t =
     (λ j. group (m j) g.mcha g.mcla d)
-    ∙ ap (λ (x : Bool). if x then (if hashAccepts g.mcha g.mcla d then Group else NotTaken) else t) other in
-    λ j. reasonNumber (rule (one.all j) ((e ∙ sym k) j) (stationAddress (one.high j) (one.low j)) frame)
+    ∙ ap (λ (x : Bool). if x then (if hash_accepts g.mcha g.mcla d then Group else NotTaken) else t) other in
+    λ j. reason_number (rule (one.all j) ((e ∙ sym k) j) (station_address (one.high j) (one.low j)) frame)
 
-pub ones-as-all-multicast : OnesAsAllMulticast
-ones-as-all-multicast = as-mode 0xffff_ffff 5 refl ones-accept
+pub ones_as_all_multicast : OnesAsAllMulticast
+ones_as_all_multicast = as_mode 0xffff_ffff 5 refl ones_accept
 
-pub zeros-as-no-multicast : ZerosAsNoMulticast
-zeros-as-no-multicast = as-mode 0 0 refl zeros-refuse
+pub zeros_as_no_multicast : ZerosAsNoMulticast
+zeros_as_no_multicast = as_mode 0 0 refl zeros_refuse

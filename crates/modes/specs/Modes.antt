@@ -1,8 +1,8 @@
 -- 02, "Multicast by hash": the mode beside two others, where its registers are all ones or all zero. Assumes nothing.
 use Rattle.std.specs.Prelude.{ℕ, ◌≡◌, List}
 use Rattle.filter.specs.declared.Filter.{Filter}
-use Rattle.filter.specs.Meaning.{receive_all, filterMode}
-use Rattle.address_rule.specs.AddressRule.{addressRule}
+use Rattle.filter.specs.Meaning.{receive_all, filter_mode}
+use Rattle.address_rule.specs.AddressRule.{address_rule}
 
 -- one station, with receive-all set or clear in both; filter mode, hash registers and all other bits of MAC control may differ
 pub record OneStation (f g : Filter) : Type 0 where
@@ -14,12 +14,12 @@ pub record OneStation (f g : Filter) : Type 0 where
 abbrev pub HashTakesAs : ℕ → ℕ → Type 0
 HashTakesAs v mode =
     (f g : Filter) → OneStation f g
-    → filterMode f.mcr ≡ 1
+    → filter_mode f.mcr ≡ 1
     → f.mcha ≡ v
     → f.mcla ≡ v
-    → filterMode g.mcr ≡ mode
+    → filter_mode g.mcr ≡ mode
     → (frame : List ℕ)
-    → addressRule f frame ≡ addressRule g frame
+    → address_rule f frame ≡ address_rule g frame
 
 -- all ones: as mode 101b, all-multicast
 abbrev pub OnesAsAllMulticast : Type 0

@@ -5,9 +5,9 @@ use mathlib.Core.List.{List}
 use native.Mathlib.Nat.{zero-add}
 use lib.ListN.{length, get_or, drop, set}
 use lib.Seq.{sets}
-use Rattle.memory.proofs.Laws.{sets-turn}
+use Rattle.memory.proofs.Laws.{sets_turn}
 
-pub front-turn : (m s : List ℕ) (i : ℕ) → i < length s → sets (set m i (get_or s i 0)) (0 + (i + 1)) (drop (i + 1) s) ≡ sets m (0 + i) (drop i s)
-front-turn m s i h =
+pub front_turn : (m s : List ℕ) (i : ℕ) → i < length s → sets (set m i (get_or s i 0)) (0 + (i + 1)) (drop (i + 1) s) ≡ sets m (0 + i) (drop i s)
+front_turn m s i h =
     let z : set m (0 + i) (get_or s i 0) ≡ set m i (get_or s i 0) = rw (zero-add i) in
-    ap (λ (l : List ℕ). sets l (0 + (i + 1)) (drop (i + 1) s)) (sym z) ∙ sets-turn m s 0 i h
+    ap (λ (l : List ℕ). sets l (0 + (i + 1)) (drop (i + 1) s)) (sym z) ∙ sets_turn m s 0 i h

@@ -4,61 +4,61 @@ use mathlib.Core.Bool.{Bool, true, false}
 use Prim.Native.Nat.{ℕ}
 use borrow.Author.Tests.{eq-eqb, ne_eqb}
 use Rattle.engine.specs.declared.Engine.{Engine}
-use Rattle.engine.specs.Engine.{stopped, ledTo, notGranted}
+use Rattle.engine.specs.Engine.{stopped, led_to, not_granted}
 use Rattle.registers.specs.declared.Registers.{Registers}
-use Rattle.registers.specs.Registers.{withRx, withTx, raised, rxCurrDone, rxDone, packetLost, txCurrDone, txDone}
-use Rattle.outcomes.specs.Outcomes.{rxRefused, rxAdvanced, txRefused, txAdvanced}
+use Rattle.registers.specs.Registers.{with_rx, with_tx, raised, rx_curr_done, rx_done, packet_lost, tx_curr_done, tx_done}
+use Rattle.outcomes.specs.Outcomes.{rx_refused, rx_advanced, tx_refused, tx_advanced}
 
 -- ---- a refusal
 
 module _ (n : ℕ) (r : Registers) where
-  pub rx-fault-stops : n ≡ 7 → (e : Engine) → e ≡ stopped r.rx → withRx r e ≡ rxRefused n r
-  unfolding rxRefused
-  rx-fault-stops z e q = rw (eq-eqb n 7 z, q)
+  pub rx_fault_stops : n ≡ 7 → (e : Engine) → e ≡ stopped r.rx → with_rx r e ≡ rx_refused n r
+  unfolding rx_refused
+  rx_fault_stops z e q = rw (eq-eqb n 7 z, q)
 
-  pub rx-not-granted : (n ≡ 7 → ⊥) → n ≡ 8 → (e : Engine) → e ≡ notGranted r.rx → withRx (raised r packetLost) e ≡ rxRefused n r
-  unfolding rxRefused
-  rx-not-granted a z e q = rw (ne_eqb n 7 a, eq-eqb n 8 z, q)
+  pub rx_not_granted_lem : (n ≡ 7 → ⊥) → n ≡ 8 → (e : Engine) → e ≡ not_granted r.rx → with_rx (raised r packet_lost) e ≡ rx_refused n r
+  unfolding rx_refused
+  rx_not_granted_lem a z e q = rw (ne_eqb n 7 a, eq-eqb n 8 z, q)
 
-  pub rx-others-keep : (n ≡ 7 → ⊥) → (n ≡ 8 → ⊥) → r ≡ rxRefused n r
-  unfolding rxRefused
-  rx-others-keep a b = rw (ne_eqb n 7 a, ne_eqb n 8 b)
+  pub rx_others_keep : (n ≡ 7 → ⊥) → (n ≡ 8 → ⊥) → r ≡ rx_refused n r
+  unfolding rx_refused
+  rx_others_keep a b = rw (ne_eqb n 7 a, ne_eqb n 8 b)
 
-  pub tx-fault-stops : n ≡ 7 → (e : Engine) → e ≡ stopped r.tx → withTx r e ≡ txRefused n r
-  unfolding txRefused
-  tx-fault-stops z e q = rw (eq-eqb n 7 z, q)
+  pub tx_fault_stops : n ≡ 7 → (e : Engine) → e ≡ stopped r.tx → with_tx r e ≡ tx_refused n r
+  unfolding tx_refused
+  tx_fault_stops z e q = rw (eq-eqb n 7 z, q)
 
-  pub tx-not-granted : (n ≡ 7 → ⊥) → n ≡ 8 → (e : Engine) → e ≡ notGranted r.tx → withTx r e ≡ txRefused n r
-  unfolding txRefused
-  tx-not-granted a z e q = rw (ne_eqb n 7 a, eq-eqb n 8 z, q)
+  pub tx_not_granted_lem : (n ≡ 7 → ⊥) → n ≡ 8 → (e : Engine) → e ≡ not_granted r.tx → with_tx r e ≡ tx_refused n r
+  unfolding tx_refused
+  tx_not_granted_lem a z e q = rw (ne_eqb n 7 a, eq-eqb n 8 z, q)
 
-  pub tx-length-stops : (n ≡ 7 → ⊥) → (n ≡ 8 → ⊥) → n ≡ 12 → (e : Engine) → e ≡ stopped r.tx → withTx r e ≡ txRefused n r
-  unfolding txRefused
-  tx-length-stops a b z e q = rw (ne_eqb n 7 a, ne_eqb n 8 b, eq-eqb n 12 z, q)
+  pub tx_length_stops : (n ≡ 7 → ⊥) → (n ≡ 8 → ⊥) → n ≡ 12 → (e : Engine) → e ≡ stopped r.tx → with_tx r e ≡ tx_refused n r
+  unfolding tx_refused
+  tx_length_stops a b z e q = rw (ne_eqb n 7 a, ne_eqb n 8 b, eq-eqb n 12 z, q)
 
-  pub tx-others-keep : (n ≡ 7 → ⊥) → (n ≡ 8 → ⊥) → (n ≡ 12 → ⊥) → r ≡ txRefused n r
-  unfolding txRefused
-  tx-others-keep a b c = rw (ne_eqb n 7 a, ne_eqb n 8 b, ne_eqb n 12 c)
+  pub tx_others_keep : (n ≡ 7 → ⊥) → (n ≡ 8 → ⊥) → (n ≡ 12 → ⊥) → r ≡ tx_refused n r
+  unfolding tx_refused
+  tx_others_keep a b c = rw (ne_eqb n 7 a, ne_eqb n 8 b, ne_eqb n 12 c)
 
-pub ruleset rx-refused-ways = (rx-fault-stops, rx-not-granted, rx-others-keep)
+pub ruleset rx_refused_ways = (rx_fault_stops, rx_not_granted_lem, rx_others_keep)
 
-pub ruleset tx-refused-ways = (tx-fault-stops, tx-not-granted, tx-length-stops, tx-others-keep)
+pub ruleset tx_refused_ways = (tx_fault_stops, tx_not_granted_lem, tx_length_stops, tx_others_keep)
 
 -- ---- a delivery, and a send
 
 module _ (r : Registers) (linked : Bool) (w : ℕ) where
-  pub rx-moves : linked ≡ true → (e : Engine) → e ≡ ledTo r.rx w → withRx (raised r rxCurrDone) e ≡ rxAdvanced r linked w
-  unfolding rxAdvanced
-  rx-moves t e q = rw (t, q)
+  pub rx_moves : linked ≡ true → (e : Engine) → e ≡ led_to r.rx w → with_rx (raised r rx_curr_done) e ≡ rx_advanced r linked w
+  unfolding rx_advanced
+  rx_moves t e q = rw (t, q)
 
-  pub rx-ends : linked ≡ false → (e : Engine) → e ≡ stopped r.rx → withRx (raised (raised r rxCurrDone) rxDone) e ≡ rxAdvanced r linked w
-  unfolding rxAdvanced
-  rx-ends t e q = rw (t, q)
+  pub rx_ends : linked ≡ false → (e : Engine) → e ≡ stopped r.rx → with_rx (raised (raised r rx_curr_done) rx_done) e ≡ rx_advanced r linked w
+  unfolding rx_advanced
+  rx_ends t e q = rw (t, q)
 
-  pub tx-moves : linked ≡ true → (e : Engine) → e ≡ ledTo r.tx w → withTx (raised r txCurrDone) e ≡ txAdvanced r linked w
-  unfolding txAdvanced
-  tx-moves t e q = rw (t, q)
+  pub tx_moves : linked ≡ true → (e : Engine) → e ≡ led_to r.tx w → with_tx (raised r tx_curr_done) e ≡ tx_advanced r linked w
+  unfolding tx_advanced
+  tx_moves t e q = rw (t, q)
 
-  pub tx-ends : linked ≡ false → (e : Engine) → e ≡ stopped r.tx → withTx (raised (raised r txCurrDone) txDone) e ≡ txAdvanced r linked w
-  unfolding txAdvanced
-  tx-ends t e q = rw (t, q)
+  pub tx_ends : linked ≡ false → (e : Engine) → e ≡ stopped r.tx → with_tx (raised (raised r tx_curr_done) tx_done) e ≡ tx_advanced r linked w
+  unfolding tx_advanced
+  tx_ends t e q = rw (t, q)

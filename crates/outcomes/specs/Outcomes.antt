@@ -2,43 +2,43 @@
 -- refused by a number or done. Assumes nothing.
 use Rattle.std.specs.Prelude.{ℕ, Bool, eqb}
 use Rattle.rules.specs.Choice.{if◌then◌else◌}
-use Rattle.engine.specs.Engine.{stopped, ledTo, notGranted}
+use Rattle.engine.specs.Engine.{stopped, led_to, not_granted}
 use Rattle.registers.specs.declared.Registers.{Registers}
-use Rattle.registers.specs.Registers.{raised, withRx, withTx, txCurrDone, txDone, rxCurrDone, rxDone, packetLost}
+use Rattle.registers.specs.Registers.{raised, with_rx, with_tx, tx_curr_done, tx_done, rx_curr_done, rx_done, packet_lost}
 
 -- ---- a frame in
 
 -- what a refused frame leaves, by its number: row 7 "that engine stops, nothing else changed", row 8 "PACKET_LOST is set,
 -- nothing else", amended by 02, Wish 5: "Without it, number 8, for sending too, also stops that engine"; the others "nothing
 -- changed"
-unfoldable pub rxRefused : ℕ → Registers → Registers
-rxRefused n r =
-    if eqb n 7 then withRx r (stopped r.rx) else
-    if eqb n 8 then withRx (raised r packetLost) (notGranted r.rx) else
+unfoldable pub rx_refused : ℕ → Registers → Registers
+rx_refused n r =
+    if eqb n 7 then with_rx r (stopped r.rx) else
+    if eqb n 8 then with_rx (raised r packet_lost) (not_granted r.rx) else
     r
 
 -- after a delivery: "RX_CURR_DONE is set. With next-enable the engine moves to the next address; without it RX_DONE is set
 -- too and the engine stops." w is the descriptor's next word
-unfoldable pub rxAdvanced : Registers → Bool → ℕ → Registers
-rxAdvanced r linked w =
+unfoldable pub rx_advanced : Registers → Bool → ℕ → Registers
+rx_advanced r linked w =
     if linked
-    then withRx (raised r rxCurrDone) (ledTo r.rx w)
-    else withRx (raised (raised r rxCurrDone) rxDone) (stopped r.rx)
+    then with_rx (raised r rx_curr_done) (led_to r.rx w)
+    else with_rx (raised (raised r rx_curr_done) rx_done) (stopped r.rx)
 
 -- ---- a frame out
 
 -- what a refused send leaves, by its number: row 7 "that engine stops", row 8 "send: nothing changed", amended by 02, Wish 5, as
 -- above; row 12 "sending stops, nothing else changed", the others "nothing changed"
-unfoldable pub txRefused : ℕ → Registers → Registers
-txRefused n r =
-    if eqb n 7 then withTx r (stopped r.tx) else
-    if eqb n 8 then withTx r (notGranted r.tx) else
-    if eqb n 12 then withTx r (stopped r.tx) else
+unfoldable pub tx_refused : ℕ → Registers → Registers
+tx_refused n r =
+    if eqb n 7 then with_tx r (stopped r.tx) else
+    if eqb n 8 then with_tx r (not_granted r.tx) else
+    if eqb n 12 then with_tx r (stopped r.tx) else
     r
 
 -- after a send: "sets TX_CURR_DONE, and moves on as above, with TX_DONE at the end of a chain". w is the descriptor's next word
-unfoldable pub txAdvanced : Registers → Bool → ℕ → Registers
-txAdvanced r linked w =
+unfoldable pub tx_advanced : Registers → Bool → ℕ → Registers
+tx_advanced r linked w =
     if linked
-    then withTx (raised r txCurrDone) (ledTo r.tx w)
-    else withTx (raised (raised r txCurrDone) txDone) (stopped r.tx)
+    then with_tx (raised r tx_curr_done) (led_to r.tx w)
+    else with_tx (raised (raised r tx_curr_done) tx_done) (stopped r.tx)

@@ -1,12 +1,12 @@
 // What a frame in and a frame out leave of the registers, refused by a number or done.
 ghost use Rattle.std.specs.Prelude.{◌≡◌};
-ghost use Rattle.outcomes.specs.Outcomes.{rxRefused, rxAdvanced, txRefused, txAdvanced};
+ghost use Rattle.outcomes.specs.Outcomes.{rx_refused, rx_advanced, tx_refused, tx_advanced};
 
 use registers::Registers;
 
 // After a frame that was refused by a number.
 pub fn rx_refused(r: Registers, number: u32) -> Registers
-    ensures { result ≡ rxRefused number r }
+    ensures { result ≡ rx_refused number r }
 {
     let mut next = r;
     let rx = r.rx;
@@ -26,7 +26,7 @@ pub fn rx_refused(r: Registers, number: u32) -> Registers
 
 // After a delivery: the engine moves on where next-enable is set, and else stops.
 pub fn rx_advanced(r: Registers, linked: bool, word: u32) -> Registers
-    ensures { result ≡ rxAdvanced r linked word }
+    ensures { result ≡ rx_advanced r linked word }
 {
     let mut next = r;
     let rx = r.rx;
@@ -44,7 +44,7 @@ pub fn rx_advanced(r: Registers, linked: bool, word: u32) -> Registers
 
 // After a send that was refused by a number.
 pub fn tx_refused(r: Registers, number: u32) -> Registers
-    ensures { result ≡ txRefused number r }
+    ensures { result ≡ tx_refused number r }
 {
     let mut next = r;
     let tx = r.tx;
@@ -68,7 +68,7 @@ pub fn tx_refused(r: Registers, number: u32) -> Registers
 
 // After a send: the engine moves on where next-enable is set, and else stops.
 pub fn tx_advanced(r: Registers, linked: bool, word: u32) -> Registers
-    ensures { result ≡ txAdvanced r linked word }
+    ensures { result ≡ tx_advanced r linked word }
 {
     let mut next = r;
     let tx = r.tx;

@@ -7,18 +7,18 @@ use lib.Dec.{eqb, ltb}
 use lib.ListN.{length, get_or, take, drop, length-append, length-drop}
 use lib.Seq.{length-take-le, get_or-append-add, get_or-drop}
 use borrow.Author.Tests.{eqb-false}
-use Rattle.rules.proofs.Choices.{by-test}
+use Rattle.rules.proofs.Choices.{by_test}
 use Rattle.enet.specs.declared.Enet.{Enet}
 use Rattle.enet.specs.Send.{Sending, send}
 use Rattle.enet.specs.Run.{Running, followed, sends, run}
-use Rattle.calls.specs.Calls.{Bench, stepRun, call, ofSending, ofRunning}
-use Rattle.enet.proofs.Sends.{send-unsent}
+use Rattle.calls.specs.Calls.{Bench, step_run, call, of_sending, of_running}
+use Rattle.enet.proofs.Sends.{send_unsent}
 use Rattle.outputs.specs.Outputs.{FrontOnly}
-use Rattle.outputs.proofs.Sends.{send-front}
+use Rattle.outputs.proofs.Sends.{send_front}
 
 -- a run that wrote nothing
 none : (n : ℕ) (d : Enet) (m out : List ℕ) (k : ℕ)
-    → FrontOnly out (ofRunning (record { number = n; device = d; memory = m; output = out; steps = k; count = 0 }))
+    → FrontOnly out (of_running (record { number = n; device = d; memory = m; output = out; steps = k; count = 0 }))
 none n d m out k = record { fits = omega arith; size = refl; rest = λ j h. refl }
 
 -- a byte behind the first n of a list, and of a list put behind n others
@@ -30,9 +30,9 @@ behind xs ys zs n j e h same =
     rw at at (get_or-append-add xs ys (j - n) 0) ∙ same ∙ rw there at (get_or-drop n zs (j - n) 0)
 
 -- a send that sent, and a run into the remaining output
-then-run : (out : List ℕ) (s : Sending) (r : Running)
-    → FrontOnly out (ofSending s) → FrontOnly (drop s.count s.output) (ofRunning r) → FrontOnly out (ofRunning (followed s r))
-then-run out s r w f =
+then_run : (out : List ℕ) (s : Sending) (r : Running)
+    → FrontOnly out (of_sending s) → FrontOnly (drop s.count s.output) (of_running r) → FrontOnly out (of_running (followed s r))
+then_run out s r w f =
     let xs = take s.count s.output in
     let front : length xs ≡ s.count = length-take-le s.count s.output (omega (arith, w.fits, w.size)) in
     let back = length-drop s.count s.output in
@@ -44,18 +44,18 @@ then-run out s r w f =
           ∙ w.rest j (omega arith);
     }
 
-sends-front : (left : ℕ) (d : Enet) (m out : List ℕ) → FrontOnly out (ofRunning (sends left d m out))
+sends_front : (left : ℕ) (d : Enet) (m out : List ℕ) → FrontOnly out (of_running (sends left d m out))
 unfolding sends
-sends-front zero d m out = none 0 d m out 0
-sends-front (suc left) d m out =
+sends_front zero d m out = none 0 d m out 0
+sends_front (suc left) d m out =
     let s = send d m out in
-    by-test (λ r. FrontOnly out (ofRunning r)) (eqb s.number 0) _ _
-    (λ _. then-run out s _ (send-front d m out) (sends-front left _ _ _))
-    (λ e. rw (send-unsent d m out (eqb-false s.number 0 e)).output (none s.number s.device s.memory out 1))
+    by_test (λ r. FrontOnly out (of_running r)) (eqb s.number 0) _ _
+    (λ _. then_run out s _ (send_front d m out) (sends_front left _ _ _))
+    (λ e. rw (send_unsent d m out (eqb-false s.number 0 e)).output (none s.number s.device s.memory out 1))
 
-pub run-front : (b : Bench) (output : List ℕ) (allowance : ℕ) → FrontOnly output (call b (stepRun output allowance))
+pub run_front : (b : Bench) (output : List ℕ) (allowance : ℕ) → FrontOnly output (call b (step_run output allowance))
 unfolding run
-run-front b output allowance =
-    by-test (λ r. FrontOnly output (ofRunning r)) (ltb 4096 allowance) _ _
+run_front b output allowance =
+    by_test (λ r. FrontOnly output (of_running r)) (ltb 4096 allowance) _ _
     (λ _. none 10 b.device b.memory output 0)
-    (λ _. sends-front allowance b.device b.memory output)
+    (λ _. sends_front allowance b.device b.memory output)

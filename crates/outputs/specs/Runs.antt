@@ -1,6 +1,6 @@
 -- 01, "A frame out": a step run as the single sends that it makes, "one behind the other into the remaining output". Assumes nothing.
 use Rattle.std.specs.Prelude.{ℕ, zero, suc, ◌≤◌, ◌<◌, ◌≡◌, List, [], ◌++◌, length, take, drop}
-use Rattle.calls.specs.Calls.{Bench, sendCall, Result, call}
+use Rattle.calls.specs.Calls.{Bench, send_call, Result, call}
 
 -- where a run stands between two single sends: the bench, the steps made, the bytes written and the remaining output
 pub record Stand : Type 0 where
@@ -14,7 +14,7 @@ begins b output = record { bench = b; steps = 0; written = []; rest = output }
 
 -- the single send that comes next
 abbrev pub single : Stand → Result
-single s = call s.bench (sendCall s.rest)
+single s = call s.bench (send_call s.rest)
 
 -- where the run stands after it
 abbrev pub further : Stand → Stand

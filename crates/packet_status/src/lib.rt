@@ -1,7 +1,7 @@
 // The packet status word of a descriptor, on lent memory. Each function is total: a byte past the end of the lent memory
 // reads 0, a store there does nothing, and an address below the base counts as the base.
 ghost use Rattle.std.specs.Prelude.{◌≡◌};
-ghost use Rattle.packet_status.specs.PacketStatus.{packetStatus, granted, frameLength, withPacketStatus};
+ghost use Rattle.packet_status.specs.PacketStatus.{packet_status, granted, frame_length, with_packet_status};
 
 // VALID, bit 16, at the DMA's level, and every other bit 0: the word that a grant writes.
 pub const VALID: u32 = 0x0001_0000;
@@ -11,7 +11,7 @@ const LENGTHS: u32 = 2048;
 
 // The word of the descriptor at an address.
 fn packet_status(base: u32, m: &[u8], d: u32) -> u32
-    ensures { result ≡ packetStatus base m.now d }
+    ensures { result ≡ packet_status base m.now d }
 {
     memory::word(m, window::offset(base, d) + 12)
 }
@@ -25,14 +25,14 @@ pub fn granted(base: u32, m: &[u8], d: u32) -> bool
 
 // The frame length that it holds.
 pub fn frame_length(base: u32, m: &[u8], d: u32) -> u32
-    ensures { result ≡ frameLength base m.now d }
+    ensures { result ≡ frame_length base m.now d }
 {
     packet_status(base, m, d) % LENGTHS
 }
 
 // Writes it.
 pub fn set_packet_status(base: u32, m: &mut [u8], d: u32, v: u32)
-    ensures { m.new ≡ withPacketStatus base m.old d v }
+    ensures { m.new ≡ with_packet_status base m.old d v }
 {
     memory::store_word(m, window::offset(base, d) + 12, v);
 }

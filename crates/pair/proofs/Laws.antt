@@ -11,14 +11,14 @@ use Rattle.enet.specs.Frames.{receive}
 use Rattle.pair.specs.Pair.{pair, passes, bytes_of, received}
 use Rattle.pair.specs.Turn.{bursting, turn}
 
-pub received-past : (d : Enet) (m store : List ℕ) (s n : ℕ) → length store < s + n → leaves 16 d m ≡ received d m store (pair s n)
+pub received_past : (d : Enet) (m store : List ℕ) (s n : ℕ) → length store < s + n → leaves 16 d m ≡ received d m store (pair s n)
 unfolding received passes
-received-past d m store s n h = rw (lt-ltb (length store) (s + n) h)
+received_past d m store s n h = rw (lt-ltb (length store) (s + n) h)
 
-pub received-inside : (d : Enet) (m store : List ℕ) (s n : ℕ) (f : List ℕ) (r : Answered) (m' : List ℕ) → s + n ≤ length store
+pub received_inside : (d : Enet) (m store : List ℕ) (s n : ℕ) (f : List ℕ) (r : Answered) (m' : List ℕ) → s + n ≤ length store
     → f ≡ take n (drop s store) → outcome r m' ≡ receive d m f → outcome r m' ≡ received d m store (pair s n)
 unfolding received passes bytes_of
-received-inside d m store s n f r m' h e q = rw (le-ltb (length store) (s + n) h, ← e) q
+received_inside d m store s n f r m' h e q = rw (le-ltb (length store) (s + n) h, ← e) q
 
 pub turn_is : (last : Answered) (m store a : List ℕ) (i s n : ℕ) (r : Answered) (m' a' : List ℕ)
     → outcome r m' ≡ received last.device m store (pair s n) → a' ≡ set a i r.number

@@ -1,7 +1,7 @@
 // The pairs of a burst in a line of the bench console, START LENGTH START LENGTH .. behind BYTES (docs/CONSOLE.md).
 ghost use Rattle.std.specs.Prelude.{◌≡◌, ◌+◌, ◌≤◌};
 ghost use Rattle.memory.specs.Memory.{store};
-ghost use Rattle.pair_words.specs.PairWords.{right, value, firstNumber, pairsFrom, pairsBehind, everyOther};
+ghost use Rattle.pair_words.specs.PairWords.{right, value, first_number, pairs_from, pairs_behind, every_other};
 
 use forms::numbers::{Number, decimal};
 use forms::pairs::byte_count;
@@ -34,7 +34,7 @@ fn value(n: Number) -> u32
 
 // The first word as a START or a LENGTH.
 fn first_number(s: &[u8]) -> Number
-    ensures { result ≡ firstNumber s.now }
+    ensures { result ≡ first_number s.now }
 {
     decimal(first(s), ANY)
 }
@@ -42,7 +42,7 @@ fn first_number(s: &[u8]) -> Number
 // How many pairs there are, where n came before and `left` more may come.
 fn pairs_from(s: &[u8], left: u32, n: u32) -> Number
     requires { n + left ≤ 66 }
-    ensures { result ≡ pairsFrom left n s.now }
+    ensures { result ≡ pairs_from left n s.now }
 {
     if left == 0 {
         return Number::Wrong;
@@ -62,7 +62,7 @@ fn pairs_from(s: &[u8], left: u32, n: u32) -> Number
 
 // How many pairs stand behind BYTES, which have to be right.
 pub fn pairs_behind(words: &[u8]) -> Number
-    ensures { result ≡ pairsBehind words.now }
+    ensures { result ≡ pairs_behind words.now }
 {
     if !right(byte_count(first(words))) {
         return Number::Wrong;
@@ -75,7 +75,7 @@ pub fn pairs_behind(words: &[u8]) -> Number
 
 // Puts the numbers of n words, every other one from the first on, into `out` from an index on, as many as there is room for.
 pub fn every_other(s: &[u8], n: usize, out: &mut [u32], at: usize)
-    ensures { out.new ≡ store out.old at (everyOther n s.now) }
+    ensures { out.new ≡ store out.old at (every_other n s.now) }
 {
     if n == 0 {
         return;

@@ -27,16 +27,16 @@ abbrev pub accuracy : ℕ
 accuracy = 0
 
 -- "snap length 65,535"
-abbrev pub snapLength : ℕ
-snapLength = 65535
+abbrev pub snap_length : ℕ
+snap_length = 65535
 
 -- "link type 1"
-abbrev pub linkType : ℕ
-linkType = 1
+abbrev pub link_type : ℕ
+link_type = 1
 
-unfoldable pub headerBytes : List ℕ
-headerBytes =
-    word_bytes magic ++ (word_bytes version ++ (word_bytes zone ++ (word_bytes accuracy ++ (word_bytes snapLength ++ word_bytes linkType))))
+unfoldable pub header_bytes : List ℕ
+header_bytes =
+    word_bytes magic ++ (word_bytes version ++ (word_bytes zone ++ (word_bytes accuracy ++ (word_bytes snap_length ++ word_bytes link_type))))
 
 -- ---- the records
 
@@ -45,18 +45,18 @@ unfoldable pub message : List ℕ → List ℕ
 message frame = take (length frame - 4) frame
 
 -- "16 bytes before each frame, both lengths equal": seconds, microseconds, the captured length and the original one
-unfoldable pub headBytes : ℕ → ℕ → ℕ → ℕ → List ℕ
-headBytes seconds microseconds captured original =
+unfoldable pub head_bytes : ℕ → ℕ → ℕ → ℕ → List ℕ
+head_bytes seconds microseconds captured original =
     word_bytes seconds ++ (word_bytes microseconds ++ (word_bytes captured ++ word_bytes original))
 
-unfoldable pub recordBytes : Captured → List ℕ
-recordBytes c =
+unfoldable pub record_bytes : Captured → List ℕ
+record_bytes c =
     let n = length (message c.frame) in
-    headBytes c.seconds c.microseconds n n ++ message c.frame
+    head_bytes c.seconds c.microseconds n n ++ message c.frame
 
-unfoldable pub recordsBytes : List Captured → List ℕ
-recordsBytes [] = []
-recordsBytes (c ∷ cs) = recordBytes c ++ recordsBytes cs
+unfoldable pub records_bytes : List Captured → List ℕ
+records_bytes [] = []
+records_bytes (c ∷ cs) = record_bytes c ++ records_bytes cs
 
-unfoldable pub captureBytes : List Captured → List ℕ
-captureBytes cs = headerBytes ++ recordsBytes cs
+unfoldable pub capture_bytes : List Captured → List ℕ
+capture_bytes cs = header_bytes ++ records_bytes cs

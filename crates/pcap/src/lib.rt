@@ -2,7 +2,7 @@
 // short has as much of them as it has room for.
 ghost use Rattle.std.specs.Prelude.{◌≡◌};
 ghost use Rattle.memory.specs.Memory.{store};
-ghost use Rattle.pcap.specs.Capture.{headerBytes, message, headBytes, recordBytes};
+ghost use Rattle.pcap.specs.Capture.{header_bytes, message, head_bytes, record_bytes};
 
 // The bytes of the header.
 pub const HEADER: usize = 24;
@@ -21,7 +21,7 @@ pub const LINK_TYPE: u32 = 1;
 
 // The header of a file that is made.
 fn header() -> [u8; 24]
-    ensures { result ≡ headerBytes }
+    ensures { result ≡ header_bytes }
 {
     [
         0xd4, 0xc3, 0xb2, 0xa1, 2, 0, 4, 0, 0, 0, 0, 0, 0, 0, 0, 0, 0xff, 0xff, 0, 0, 1, 0, 0, 0,
@@ -30,7 +30,7 @@ fn header() -> [u8; 24]
 
 // Puts it at the front of a room.
 pub fn put_header(room: &mut [u8])
-    ensures { room.new ≡ store room.old 0 headerBytes }
+    ensures { room.new ≡ store room.old 0 header_bytes }
 {
     memory::store(room, 0, &header());
 }
@@ -54,7 +54,7 @@ pub struct RecordHead {
 // Those of a record of n bytes: its time, and n as the captured length and as the original one. Of a number that is longer than four
 // bytes the lowest four count.
 pub fn head(seconds: usize, microseconds: usize, n: usize) -> RecordHead
-    ensures { result.bytes ≡ headBytes seconds microseconds n n }
+    ensures { result.bytes ≡ head_bytes seconds microseconds n n }
 {
     let bytes = [
         (seconds % 256) as u8,
@@ -79,7 +79,7 @@ pub fn head(seconds: usize, microseconds: usize, n: usize) -> RecordHead
 
 // Puts the record of a frame into a room from a place on. Of a length that is longer than four bytes the lowest four are put.
 pub fn put_record(room: &mut [u8], at: usize, seconds: u32, microseconds: u32, frame: &[u8])
-    ensures { room.new ≡ store room.old at (recordBytes (record { seconds = seconds; microseconds = microseconds; frame = frame.now })) }
+    ensures { room.new ≡ store room.old at (record_bytes (record { seconds = seconds; microseconds = microseconds; frame = frame.now })) }
 {
     if room.len() <= at {
         return;

@@ -4,30 +4,30 @@
 use Rattle.std.specs.Prelude.{ℕ, not, List, [], ◌∷◌, eqb, ltb, length}
 use Rattle.rules.specs.Choice.{if◌then◌else◌, ◌otherwise◌}
 use Rattle.memory.specs.Memory.{store}
-use Rattle.fcs.specs.CheckSequence.{checkRight}
-use Rattle.frame.specs.Length.{lengthAllowed}
-use Rattle.pcap.specs.Capture.{Captured, captureBytes}
-use Rattle.pcap_list.specs.Entries.{entriesOf, ofItsForm}
+use Rattle.fcs.specs.CheckSequence.{check_right}
+use Rattle.frame.specs.Length.{length_allowed}
+use Rattle.pcap.specs.Capture.{Captured, capture_bytes}
+use Rattle.pcap_list.specs.Entries.{entries_of, of_its_form}
 use Rattle.pcap_export.specs.declared.Exported.{Exported}
 
 -- row 4: "frame under 64 or over 1,518 bytes", row 5: "frame check sequence wrong": the first that is met, or 0
-unfoldable pub frameFault : List ℕ → ℕ
-frameFault frame =
-    if not (lengthAllowed (length frame)) then 4 else
-    if not (checkRight frame) then 5 else
+unfoldable pub frame_fault : List ℕ → ℕ
+frame_fault frame =
+    if not (length_allowed (length frame)) then 4 else
+    if not (check_right frame) then 5 else
     0
 
 -- "4 or 5 for the first wrong one"
-unfoldable pub firstWrong : List Captured → ℕ
-firstWrong [] = 0
-firstWrong (c ∷ cs) = frameFault c.frame otherwise firstWrong cs
+unfoldable pub first_wrong : List Captured → ℕ
+first_wrong [] = 0
+first_wrong (c ∷ cs) = frame_fault c.frame otherwise first_wrong cs
 
 -- into a room of so many bytes
-unfoldable pub exportNumber : List ℕ → ℕ → ℕ
-exportNumber list room =
-    if not (ofItsForm list) then 29 else
-    (firstWrong (entriesOf list) otherwise
-    if ltb room (length (captureBytes (entriesOf list))) then 30 else
+unfoldable pub export_number : List ℕ → ℕ → ℕ
+export_number list room =
+    if not (of_its_form list) then 29 else
+    (first_wrong (entries_of list) otherwise
+    if ltb room (length (capture_bytes (entries_of list))) then 30 else
     0)
 
 -- what export gives: its number, how many bytes and frames the capture has, and the room, with the capture at its front
@@ -40,8 +40,8 @@ exporting e room = record { exported = e; room = room }
 
 unfoldable pub export : List ℕ → List ℕ → Exporting
 export list room =
-    let n = exportNumber list (length room) in
-    let capture = captureBytes (entriesOf list) in
+    let n = export_number list (length room) in
+    let capture = capture_bytes (entries_of list) in
     if eqb n 0
-    then exporting (record { number = 0; bytes = length capture; frames = length (entriesOf list) }) (store room 0 capture)
+    then exporting (record { number = 0; bytes = length capture; frames = length (entries_of list) }) (store room 0 capture)
     else exporting (record { number = n; bytes = 0; frames = 0 }) room

@@ -2,9 +2,9 @@
 // frame that is right and its record have as many bytes, so each record lies a header's length behind where its entry lies in the list.
 ghost use Rattle.std.specs.Prelude.{◌+◌, ◌≤◌, ◌≡◌, length};
 ghost use Rattle.memory.specs.Memory.{store};
-ghost use Rattle.pcap.specs.Capture.{recordBytes, recordsBytes};
-ghost use Rattle.pcap_list.specs.Entries.{entry_of, entriesOf, ofItsForm};
-ghost use Rattle.pcap_export.specs.Export.{frameFault, firstWrong, exportNumber, exporting, export};
+ghost use Rattle.pcap.specs.Capture.{record_bytes, records_bytes};
+ghost use Rattle.pcap_list.specs.Entries.{entry_of, entries_of, of_its_form};
+ghost use Rattle.pcap_export.specs.Export.{frame_fault, first_wrong, export_number, exporting, export};
 ghost use Rattle.pcap_export.specs.Places.{NoneWrong};
 
 // A capture that was made: 0, how many bytes it has and how many frames; or the number of the refusal and zeros.
@@ -17,7 +17,7 @@ pub struct Exported {
 
 // The first of the refusals 4 and 5 that a frame meets, or 0.
 fn fault(frame: &[u8]) -> u32
-    ensures { result ≡ frameFault frame.now }
+    ensures { result ≡ frame_fault frame.now }
 {
     if !frame::length_allowed(frame.len()) {
         return answer::FRAME_LENGTH;
@@ -37,7 +37,7 @@ fn frame_of(entry: &[u8]) -> &[u8]
 
 // The number of the first frame that is wrong, or 0.
 fn first_wrong(list: &[u8]) -> u32
-    ensures { result ≡ firstWrong (entriesOf list.now) }
+    ensures { result ≡ first_wrong (entries_of list.now) }
 {
     let mut place = 0;
     let mut n = pcap_list::size_at(list, 0);
@@ -54,8 +54,8 @@ fn first_wrong(list: &[u8]) -> u32
 
 // The number of the first refusal that holds, in the order in which they are named, or 0.
 fn number(list: &[u8], whole: bool, room: usize) -> u32
-    requires { whole ≡ ofItsForm list.now }
-    ensures { result ≡ exportNumber list.now room }
+    requires { whole ≡ of_its_form list.now }
+    ensures { result ≡ export_number list.now room }
 {
     if !whole {
         return answer::FRAME_LIST;
@@ -75,7 +75,7 @@ fn number(list: &[u8], whole: bool, room: usize) -> u32
 
 // Puts the record of an entry into the room from a place on.
 fn put_entry(entry: &[u8], room: &mut [u8], at: usize)
-    ensures { room.new ≡ store room.old at (recordBytes (entry_of entry.now)) }
+    ensures { room.new ≡ store room.old at (record_bytes (entry_of entry.now)) }
 {
     let seconds = memory::word(entry, 0);
     let microseconds = memory::word(entry, 4);
@@ -86,7 +86,7 @@ fn put_entry(entry: &[u8], room: &mut [u8], at: usize)
 // Puts the records of all entries behind the header.
 fn put_all(list: &[u8], room: &mut [u8])
     requires { NoneWrong list.now × (24 + length list.now ≤ length room.old) }
-    ensures { room.new ≡ store room.old 24 (recordsBytes (entriesOf list.now)) }
+    ensures { room.new ≡ store room.old 24 (records_bytes (entries_of list.now)) }
 {
     let mut place = 0;
     let mut n = pcap_list::size_at(list, 0);

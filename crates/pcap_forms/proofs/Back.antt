@@ -9,86 +9,86 @@ use lib.ListN.{length, take, drop, length-append}
 use lib.Seq.{take_at}
 use borrow.Author.Tests.{le-ltb, eq-eqb, eqb-true, eqb-false}
 use Rattle.rules.specs.Choice.{if◌then◌else◌, ◌otherwise◌}
-use Rattle.rules.proofs.Choices.{by_bool, if_yes, if_no, passed-by, or_no, not-no}
+use Rattle.rules.proofs.Choices.{by_bool, if_yes, if_no, passed_by, or_no, not_no}
 use Rattle.memory.specs.Memory.{word, word_bytes, store}
-use Rattle.memory.proofs.Stores.{part-back}
+use Rattle.memory.proofs.Stores.{part_back}
 use Rattle.block_forms.specs.Forms.{Bytes}
-use Rattle.pcap.specs.Capture.{Captured, headerBytes, recordsBytes, captureBytes}
-use Rattle.pcap.proofs.Laws.{length-header}
-use Rattle.pcap_list.specs.Entries.{entriesOf}
-use Rattle.pcap_export.specs.Export.{exportNumber, exporting, export}
-use Rattle.pcap_export.proofs.Lengths.{length-capture}
+use Rattle.pcap.specs.Capture.{Captured, header_bytes, records_bytes, capture_bytes}
+use Rattle.pcap.proofs.Laws.{length_header}
+use Rattle.pcap_list.specs.Entries.{entries_of}
+use Rattle.pcap_export.specs.Export.{export_number, exporting, export}
+use Rattle.pcap_export.proofs.Lengths.{length_capture}
 use Rattle.pcap_export.proofs.Ways.{accepted}
-use Rattle.pcap_records.specs.Records.{recordsFault, framesOf, allStorable}
-use Rattle.pcap_import.specs.Import.{headerFault, importedFrames, eventsOf, timesOf, tooLittle, importNumber, look, importing, import}
+use Rattle.pcap_records.specs.Records.{records_fault, frames_of, all_storable}
+use Rattle.pcap_import.specs.Import.{header_fault, imported_frames, events_of, times_of, too_little, import_number, look, importing, import}
 use Rattle.pcap_forms.specs.Forms.{Back, RoundTrip, ExportedImports}
-use Rattle.pcap_forms.proofs.Records.{AllExportable, made-frames, made-right, made-storable}
-use Rattle.pcap_forms.proofs.Entries.{entries-exportable}
+use Rattle.pcap_forms.proofs.Records.{AllExportable, made_frames, made_right, made_storable}
+use Rattle.pcap_forms.proofs.Entries.{entries_exportable}
 
 -- ---- the header
 
-header-right : (r : List ℕ) → headerFault (headerBytes ++ r) ≡ 0
-unfolding headerFault headerBytes word word_bytes
-header-right r = rw (le-ltb (length (headerBytes ++ r)) 24 (omega arith))
+header_right : (r : List ℕ) → header_fault (header_bytes ++ r) ≡ 0
+unfolding header_fault header_bytes word word_bytes
+header_right r = rw (le-ltb (length (header_bytes ++ r)) 24 (omega arith))
 
-behind-header : (r : List ℕ) → drop 24 (headerBytes ++ r) ≡ r
-unfolding headerBytes word_bytes
-behind-header r = refl
+behind_header : (r : List ℕ) → drop 24 (header_bytes ++ r) ≡ r
+unfolding header_bytes word_bytes
+behind_header r = refl
 
 -- ---- import of a file whose parts are right
 
-module _ (file : List ℕ) (events times : List ℕ) (cs : List Captured) (header : headerFault file ≡ 0) (records : recordsFault (drop 24 file) ≡ 0)
-    (frames : importedFrames file ≡ cs) (fit : allStorable cs ≡ true) (he : length (eventsOf cs) ≤ length events) (ht : length (timesOf cs) ≤ length times) where
-  number : importNumber file (length events) (length times) ≡ 0
-  unfolding importNumber tooLittle
+module _ (file : List ℕ) (events times : List ℕ) (cs : List Captured) (header : header_fault file ≡ 0) (records : records_fault (drop 24 file) ≡ 0)
+    (frames : imported_frames file ≡ cs) (fit : all_storable cs ≡ true) (he : length (events_of cs) ≤ length events) (ht : length (times_of cs) ≤ length times) where
+  number : import_number file (length events) (length times) ≡ 0
+  unfolding import_number too_little
   number =
-      let room = or_no _ _ (not-no _ fit) (or_no _ _ (le-ltb (length events) (length (eventsOf cs)) he) (le-ltb (length times) (length (timesOf cs)) ht)) in
-      sym (passed-by _ _ 0 0 (sym header) refl (passed-by _ _ 0 0 (sym records) refl (rw frames (if_no _ _ _ _ room refl))))
+      let room = or_no _ _ (not_no _ fit) (or_no _ _ (le-ltb (length events) (length (events_of cs)) he) (le-ltb (length times) (length (times_of cs)) ht)) in
+      sym (passed_by _ _ 0 0 (sym header) refl (passed_by _ _ 0 0 (sym records) refl (rw frames (if_no _ _ _ _ room refl))))
 
-  says : look file (length events) (length times) ≡ record { number = 0; bytes = length (eventsOf cs); frames = length cs }
+  says : look file (length events) (length times) ≡ record { number = 0; bytes = length (events_of cs); frames = length cs }
   unfolding look
   says =
-      sym (if_yes _ _ _ _ (eq-eqb (importNumber file (length events) (length times)) 0 number) (rw frames))
+      sym (if_yes _ _ _ _ (eq-eqb (import_number file (length events) (length times)) 0 number) (rw frames))
 
-  pub imports-all : import file events times
-      ≡ importing (record { number = 0; bytes = length (eventsOf cs); frames = length cs }) (store events 0 (eventsOf cs)) (store times 0 (timesOf cs))
+  pub imports_all : import file events times
+      ≡ importing (record { number = 0; bytes = length (events_of cs); frames = length cs }) (store events 0 (events_of cs)) (store times 0 (times_of cs))
   unfolding import
-  imports-all = rw (says, frames)
+  imports_all = rw (says, frames)
 
 -- ---- there and back
 
-captures-back : (cs : List Captured) → AllExportable cs → Back cs (captureBytes cs)
-unfolding captureBytes
-captures-back cs a =
-    let d = behind-header (recordsBytes cs) in
-    let f : importedFrames (headerBytes ++ recordsBytes cs) ≡ cs = rw d (made-frames cs a) in
-    let r : recordsFault (drop 24 (headerBytes ++ recordsBytes cs)) ≡ 0 = rw d (made-right cs a) in
+captures_back : (cs : List Captured) → AllExportable cs → Back cs (capture_bytes cs)
+unfolding capture_bytes
+captures_back cs a =
+    let d = behind_header (records_bytes cs) in
+    let f : imported_frames (header_bytes ++ records_bytes cs) ≡ cs = rw d (made_frames cs a) in
+    let r : records_fault (drop 24 (header_bytes ++ records_bytes cs)) ≡ 0 = rw d (made_right cs a) in
     record {
       frames = f;
-      imports = λ events times he ht. imports-all (headerBytes ++ recordsBytes cs) events times cs (header-right (recordsBytes cs)) r f (made-storable cs a) he ht;
+      imports = λ events times he ht. imports_all (header_bytes ++ records_bytes cs) events times cs (header_right (records_bytes cs)) r f (made_storable cs a) he ht;
     }
 
 pub round_trip : RoundTrip
 round_trip list room b e =
-    captures-back (entriesOf list) (entries-exportable list b (accepted list room (sym e)).1.0)
+    captures_back (entries_of list) (entries_exportable list b (accepted list room (sym e)).1.0)
 
-not-refused : (list room : List ℕ) → (export list room).exported.number ≡ 0 → exportNumber list (length room) ≡ 0
+not_refused : (list room : List ℕ) → (export list room).exported.number ≡ 0 → export_number list (length room) ≡ 0
 unfolding export
-not-refused list room =
-    by_bool (eqb (exportNumber list (length room)) 0) (λ t e. eqb-true (exportNumber list (length room)) 0 t) (λ t. rw t (λ e. e))
+not_refused list room =
+    by_bool (eqb (export_number list (length room)) 0) (λ t e. eqb-true (export_number list (length room)) 0 t) (λ t. rw t (λ e. e))
 
-pub exports-all : (list room : List ℕ) → exportNumber list (length room) ≡ 0
-    → export list room ≡ exporting (record { number = 0; bytes = length (captureBytes (entriesOf list)); frames = length (entriesOf list) }) (store room 0 (captureBytes (entriesOf list)))
+pub exports_all : (list room : List ℕ) → export_number list (length room) ≡ 0
+    → export list room ≡ exporting (record { number = 0; bytes = length (capture_bytes (entries_of list)); frames = length (entries_of list) }) (store room 0 (capture_bytes (entries_of list)))
 unfolding export
-exports-all list room n = rw (eq-eqb (exportNumber list (length room)) 0 n)
+exports_all list room n = rw (eq-eqb (export_number list (length room)) 0 n)
 
-pub exported-imports : ExportedImports
-exported-imports list room b e =
-    let n : exportNumber list (length room) ≡ 0 = not-refused list room e in
+pub exported_imports : ExportedImports
+exported_imports list room b e =
+    let n : export_number list (length room) ≡ 0 = not_refused list room e in
     let a = accepted list (length room) (sym n) in
-    let k = length-capture list a.0 a.1.0 in
+    let k = length_capture list a.0 a.1.0 in
     let l = a.1.1 in
-    let out = exports-all list room n in
-    let same : take (export list room).exported.bytes (export list room).room ≡ captureBytes (entriesOf list) =
-    rw out (part-back room 0 (captureBytes (entriesOf list)) (omega arith)) in
+    let out = exports_all list room n in
+    let same : take (export list room).exported.bytes (export list room).room ≡ capture_bytes (entries_of list) =
+    rw out (part_back room 0 (capture_bytes (entries_of list)) (omega arith)) in
     rw same (round_trip list (length room) b n)

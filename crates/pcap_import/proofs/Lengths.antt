@@ -11,51 +11,51 @@ use Rattle.memory.specs.Memory.{word_bytes}
 use Rattle.event.specs.Event.{bytes_of, list_of}
 use Rattle.pieces.specs.Pieces.{pieces_by, pieces, sizes}
 use Rattle.pcap.specs.Capture.{Captured}
-use Rattle.pcap_records.specs.Records.{recordSize, capturedOf, framesOf}
+use Rattle.pcap_records.specs.Records.{record_size, captured_of, frames_of}
 use Rattle.pcap_records.proofs.Laws.{fits, least}
-use Rattle.pcap_records.proofs.Walks.{length-frame}
-use Rattle.pcap_import.specs.Import.{frameEvent, eventsOf, timeBytes, timesOf}
+use Rattle.pcap_records.proofs.Walks.{length_frame}
+use Rattle.pcap_import.specs.Import.{frame_event, events_of, time_bytes, times_of}
 
-length-event : (c : Captured) → length (bytes_of (frameEvent c)) ≡ 5 + length c.frame
+length_event : (c : Captured) → length (bytes_of (frame_event c)) ≡ 5 + length c.frame
 unfolding bytes_of word_bytes
-length-event c = omega arith
+length_event c = omega arith
 
-pub length-time : (c : Captured) → length (timeBytes c) ≡ 8
-unfolding timeBytes word_bytes
-length-time c = refl
+pub length_time : (c : Captured) → length (time_bytes c) ≡ 8
+unfolding time_bytes word_bytes
+length_time c = refl
 
-pub length-times : (cs : List Captured) → length (timesOf cs) ≡ 8 * length cs
-unfolding timesOf
-length-times [] = refl
-length-times (c ∷ cs) = length-append (timeBytes c) (timesOf cs) ∙ omega (arith, length-time c, length-times cs)
+pub length_times : (cs : List Captured) → length (times_of cs) ≡ 8 * length cs
+unfolding times_of
+length_times [] = refl
+length_times (c ∷ cs) = length-append (time_bytes c) (times_of cs) ∙ omega (arith, length_time c, length_times cs)
 
 -- the event of a record
-pub length-event-of : (x : List ℕ) → 16 ≤ length x → length (bytes_of (frameEvent (capturedOf x))) + 7 ≡ length x
-length-event-of x h =
-    let e = length-event (capturedOf x) in
-    let f = length-frame x h in
+pub length_event_of : (x : List ℕ) → 16 ≤ length x → length (bytes_of (frame_event (captured_of x))) + 7 ≡ length x
+length_event_of x h =
+    let e = length_event (captured_of x) in
+    let f = length_frame x h in
     omega arith
 
 -- all events, and that their records have at least 16 bytes each
-events-by : (n : ℕ) (s : List ℕ)
-    → (length (eventsOf (map capturedOf (pieces_by recordSize n s))) + 7 * length (map capturedOf (pieces_by recordSize n s)) ≡ sizes (pieces_by recordSize n s))
-    × (16 * length (map capturedOf (pieces_by recordSize n s)) ≤ sizes (pieces_by recordSize n s))
-unfolding pieces_by eventsOf list_of
-events-by zero s = (refl, omega arith)
-events-by (suc n) s =
-    by_bool (eqb (recordSize s) 0) (λ t. rw t (refl, omega arith))
+events_by : (n : ℕ) (s : List ℕ)
+    → (length (events_of (map captured_of (pieces_by record_size n s))) + 7 * length (map captured_of (pieces_by record_size n s)) ≡ sizes (pieces_by record_size n s))
+    × (16 * length (map captured_of (pieces_by record_size n s)) ≤ sizes (pieces_by record_size n s))
+unfolding pieces_by events_of list_of
+events_by zero s = (refl, omega arith)
+events_by (suc n) s =
+    by_bool (eqb (record_size s) 0) (λ t. rw t (refl, omega arith))
     (λ t.
-    let some = least s (eqb-false (recordSize s) 0 t) in
-    let x = take (recordSize s) s in
+    let some = least s (eqb-false (record_size s) 0 t) in
+    let x = take (record_size s) s in
     let f = fits s in
-    let k = length-take (recordSize s) s in
-    let one = length-event-of x (omega arith) in
-    let rest = events-by n (drop (recordSize s) s) in
+    let k = length-take (record_size s) s in
+    let one = length_event_of x (omega arith) in
+    let rest = events_by n (drop (record_size s) s) in
     let r = rest.0 in
     let m = rest.1 in
-    let a = length-append (bytes_of (frameEvent (capturedOf x))) (eventsOf (map capturedOf (pieces_by recordSize n (drop (recordSize s) s)))) in
+    let a = length-append (bytes_of (frame_event (captured_of x))) (events_of (map captured_of (pieces_by record_size n (drop (record_size s) s)))) in
     rw t (omega arith, omega arith))
 
-pub length-events : (s : List ℕ) → (length (eventsOf (framesOf s)) + 7 * length (framesOf s) ≡ sizes (pieces recordSize s)) × (16 * length (framesOf s) ≤ sizes (pieces recordSize s))
-unfolding framesOf
-length-events s = events-by (length s) s
+pub length_events : (s : List ℕ) → (length (events_of (frames_of s)) + 7 * length (frames_of s) ≡ sizes (pieces record_size s)) × (16 * length (frames_of s) ≤ sizes (pieces record_size s))
+unfolding frames_of
+length_events s = events_by (length s) s

@@ -2,8 +2,8 @@
 ghost use Rattle.std.specs.Prelude.{◌+◌, ◌^◌, ◌<◌, ◌≡◌, ◌∷◌, length, drop};
 ghost use Rattle.memory.specs.Memory.{word_bytes, store};
 ghost use Rattle.event.specs.Event.{bytes_of};
-ghost use Rattle.pcap_records.specs.Records.{capturedOf, framesOf};
-ghost use Rattle.pcap_import.specs.Import.{frameEvent, eventsOf, timeBytes, timesOf};
+ghost use Rattle.pcap_records.specs.Records.{captured_of, frames_of};
+ghost use Rattle.pcap_import.specs.Import.{frame_event, events_of, time_bytes, times_of};
 
 // The first bytes of a frame event: which event it is, and how many bytes the frame has.
 fn head(n: usize) -> [u8; 5]
@@ -28,7 +28,7 @@ fn message_of(item: &[u8]) -> &[u8]
 // Puts the event of a record's frame, with its check sequence, from a place on.
 fn put_event(item: &[u8], events: &mut [u8], at: usize)
     requires { at + length item.now < 2 ^ 64 }
-    ensures { events.new ≡ store events.old at (bytes_of (frameEvent (capturedOf item.now))) }
+    ensures { events.new ≡ store events.old at (bytes_of (frame_event (captured_of item.now))) }
 {
     if events.len() <= at {
         return;
@@ -43,7 +43,7 @@ fn put_event(item: &[u8], events: &mut [u8], at: usize)
 
 // Puts the time of a record from a place on.
 fn put_time(item: &[u8], times: &mut [u8], at: usize)
-    ensures { times.new ≡ store times.old at (timeBytes (capturedOf item.now)) }
+    ensures { times.new ≡ store times.old at (time_bytes (captured_of item.now)) }
 {
     if times.len() <= at {
         return;
@@ -56,7 +56,7 @@ fn put_time(item: &[u8], times: &mut [u8], at: usize)
 
 // Puts the events and the times of all records.
 pub(crate) fn put_all(records: &[u8], events: &mut [u8], times: &mut [u8])
-    ensures { (events.new ≡ store events.old 0 (eventsOf (framesOf records.now))) × (times.new ≡ store times.old 0 (timesOf (framesOf records.now))) }
+    ensures { (events.new ≡ store events.old 0 (events_of (frames_of records.now))) × (times.new ≡ store times.old 0 (times_of (frames_of records.now))) }
 {
     let mut place = 0;
     let mut to = 0;

@@ -2,7 +2,7 @@
 mod frames;
 
 ghost use Rattle.std.specs.Prelude.{◌≡◌, drop};
-ghost use Rattle.pcap_import.specs.Import.{headerFault, look, importing, import};
+ghost use Rattle.pcap_import.specs.Import.{header_fault, look, importing, import};
 
 // What a capture gave: 0, how many bytes its events have and how many frames it has; or the number of the refusal and zeros.
 #[derive(Drop)]
@@ -14,7 +14,7 @@ pub struct Imported {
 
 // What is wrong with the header, or 0.
 fn header_fault(file: &[u8]) -> u32
-    ensures { result ≡ headerFault file.now }
+    ensures { result ≡ header_fault file.now }
 {
     if file.len() < pcap::HEADER {
         return answer::CAPTURE_HEADER;

@@ -10,58 +10,58 @@ use lib.ListN.{length, take, drop, length-drop}
 use lib.Seq.{get_or-drop}
 use borrow.Author.Tests.{lt-ltb, le-ltb, ltb-false, eqb-false}
 use Rattle.rules.specs.Choice.{if◌then◌else◌}
-use Rattle.rules.proofs.Choices.{by_bool, by-test}
+use Rattle.rules.proofs.Choices.{by_bool, by_test}
 use Rattle.memory.specs.Memory.{word, word_bytes}
-use Rattle.memory.proofs.Parts.{word-from}
+use Rattle.memory.proofs.Parts.{word_from}
 use Rattle.appending.specs.Put.{Put, put}
 use Rattle.pieces.specs.Pieces.{pieces, sizes}
 use Rattle.pieces.proofs.Turns.{Fits, turn, stop, lies, has}
-use Rattle.pcap.specs.Capture.{Captured, headBytes}
+use Rattle.pcap.specs.Capture.{Captured, head_bytes}
 use Rattle.pcap_list.specs.declared.Listed.{Listed}
-use Rattle.pcap_list.specs.Entries.{entryHead, entryBytes, entrySize, entry_of, entriesOf, ofItsForm, listed}
+use Rattle.pcap_list.specs.Entries.{entry_head, entry_bytes, entry_size, entry_of, entries_of, of_its_form, listed}
 
 -- ---- the size of an entry
 
-pub fits : Fits entrySize
-unfolding entrySize
+pub fits : Fits entry_size
+unfolding entry_size
 fits s =
-    by-test (λ n. n ≤ length s) (ltb (length s) 12) _ _ (λ t. omega arith)
-    (λ t. by-test (λ n. n ≤ length s) (ltb (length s) (12 + word s 8)) _ _ (λ u. omega arith) (λ u. ltb-false (length s) (12 + word s 8) u))
+    by_test (λ n. n ≤ length s) (ltb (length s) 12) _ _ (λ t. omega arith)
+    (λ t. by_test (λ n. n ≤ length s) (ltb (length s) (12 + word s 8)) _ _ (λ u. omega arith) (λ u. ltb-false (length s) (12 + word s 8) u))
 
 -- a whole entry has its head
-pub least : (s : List ℕ) → (entrySize s ≡ 0 → ⊥) → 12 ≤ entrySize s
-unfolding entrySize
+pub least : (s : List ℕ) → (entry_size s ≡ 0 → ⊥) → 12 ≤ entry_size s
+unfolding entry_size
 least s =
-    by-test (λ n. (n ≡ 0 → ⊥) → 12 ≤ n) (ltb (length s) 12) _ _ (λ t h. absurd (h refl))
-    (λ t. by-test (λ n. (n ≡ 0 → ⊥) → 12 ≤ n) (ltb (length s) (12 + word s 8)) _ _ (λ u h. absurd (h refl)) (λ u h. omega arith))
+    by_test (λ n. (n ≡ 0 → ⊥) → 12 ≤ n) (ltb (length s) 12) _ _ (λ t h. absurd (h refl))
+    (λ t. by_test (λ n. (n ≡ 0 → ⊥) → 12 ≤ n) (ltb (length s) (12 + word s 8)) _ _ (λ u h. absurd (h refl)) (λ u h. omega arith))
 
 module _ (s : List ℕ) (p : ℕ) where
-  short : length s - p < 12 → 0 ≡ entrySize (drop p s)
-  unfolding entrySize
+  short : length s - p < 12 → 0 ≡ entry_size (drop p s)
+  unfolding entry_size
   short h = rw (lt-ltb (length (drop p s)) 12 (rw (length-drop p s) h))
 
-  pub none_left : length s ≤ p → 0 ≡ entrySize (drop p s)
+  pub none_left : length s ≤ p → 0 ≡ entry_size (drop p s)
   none_left h = short (omega arith)
 
-  pub no-head : length s - p < 12 → 0 ≡ entrySize (drop p s)
-  no-head h = short h
+  pub no_head : length s - p < 12 → 0 ≡ entry_size (drop p s)
+  no_head h = short h
 
   module _ (n : ℕ) (head : 12 ≤ length s - p) (e : n ≡ word s (p + 8)) where
     long : ltb (length (drop p s)) 12 ≡ false
     long = le-ltb (length (drop p s)) 12 (rw (length-drop p s) head)
 
     said : word (drop p s) 8 ≡ n
-    said = word-from s p 8 ∙ sym e
+    said = word_from s p 8 ∙ sym e
 
-    pub no-frame : length s - p - 12 < n → 0 ≡ entrySize (drop p s)
-    unfolding entrySize
-    no-frame h =
+    pub no_frame : length s - p - 12 < n → 0 ≡ entry_size (drop p s)
+    unfolding entry_size
+    no_frame h =
         let l = length-drop p s in
         rw (long, said, lt-ltb (length (drop p s)) (12 + n) (omega arith))
 
-    pub whole-entry : n ≤ length s - p - 12 → 12 + n ≡ entrySize (drop p s)
-    unfolding entrySize
-    whole-entry h =
+    pub whole_entry : n ≤ length s - p - 12 → 12 + n ≡ entry_size (drop p s)
+    unfolding entry_size
+    whole_entry h =
         let l = length-drop p s in
         rw (long, said, le-ltb (length (drop p s)) (12 + n) (omega arith))
 
@@ -69,40 +69,40 @@ module _ (s : List ℕ) (p : ℕ) where
 
 -- what was walked before, and the pieces ahead
 pub record Walking (s : List ℕ) (place frames n : ℕ) : Type 0 where
-  pub here : n ≡ entrySize (drop place s)
+  pub here : n ≡ entry_size (drop place s)
   pub few : frames ≤ place
   pub inside : place ≤ length s
-  pub bytes : place + sizes (pieces entrySize (drop place s)) ≡ sizes (pieces entrySize s)
-  pub count : frames + length (pieces entrySize (drop place s)) ≡ length (pieces entrySize s)
+  pub bytes : place + sizes (pieces entry_size (drop place s)) ≡ sizes (pieces entry_size s)
+  pub count : frames + length (pieces entry_size (drop place s)) ≡ length (pieces entry_size s)
 
 module _ (s : List ℕ) where
-  pub walking-begins : (n : ℕ) → n ≡ entrySize (drop 0 s) → Walking s 0 0 n
-  walking-begins n e = record { here = e; few = omega arith; inside = omega arith; bytes = omega arith; count = omega arith }
+  pub walking_begins : (n : ℕ) → n ≡ entry_size (drop 0 s) → Walking s 0 0 n
+  walking_begins n e = record { here = e; few = omega arith; inside = omega arith; bytes = omega arith; count = omega arith }
 
-  pub walking-room : (place frames n : ℕ) → Walking s place frames n → place + n ≤ length s
-  walking-room place frames n w = lies entrySize fits s place n w.here w.inside
+  pub walking_room : (place frames n : ℕ) → Walking s place frames n → place + n ≤ length s
+  walking_room place frames n w = lies entry_size fits s place n w.here w.inside
 
-  pub walking_on : (place frames n m : ℕ) → Walking s place frames n → (n ≡ 0 → ⊥) → m ≡ entrySize (drop (place + n) s)
+  pub walking_on : (place frames n m : ℕ) → Walking s place frames n → (n ≡ 0 → ⊥) → m ≡ entry_size (drop (place + n) s)
       → Walking s (place + n) (frames + 1) m
   walking_on place frames n m w some e =
-      let t = turn entrySize fits s place n w.here some in
-      let h = has entrySize fits s place n w.here in
+      let t = turn entry_size fits s place n w.here some in
+      let h = has entry_size fits s place n w.here in
       let b = w.bytes in
       let c = w.count in
       let few = w.few in
-      let bs : place + (length (take n (drop place s)) + sizes (pieces entrySize (drop (place + n) s))) ≡ sizes (pieces entrySize s) = rw t at b in
-      let cs : frames + suc (length (pieces entrySize (drop (place + n) s))) ≡ length (pieces entrySize s) = rw t at c in
-      record { here = e; few = omega arith; inside = walking-room place frames n w; bytes = omega arith; count = omega arith }
+      let bs : place + (length (take n (drop place s)) + sizes (pieces entry_size (drop (place + n) s))) ≡ sizes (pieces entry_size s) = rw t at b in
+      let cs : frames + suc (length (pieces entry_size (drop (place + n) s))) ≡ length (pieces entry_size s) = rw t at c in
+      record { here = e; few = omega arith; inside = walking_room place frames n w; bytes = omega arith; count = omega arith }
 
-  pub walking-ends : (place frames n : ℕ) → Walking s place frames n → n ≡ 0
+  pub walking_ends : (place frames n : ℕ) → Walking s place frames n → n ≡ 0
       → ◌≡◌ {A = Listed} (record { whole = eqb place (length s); frames = frames }) (listed s)
-  unfolding ofItsForm entriesOf
-  walking-ends place frames n w z =
-      let t = stop entrySize fits s place n w.here z in
-      let b : place + 0 ≡ sizes (pieces entrySize s) = rw t at w.bytes in
-      let c : frames + 0 ≡ length (pieces entrySize s) = rw t at w.count in
-      let p : place ≡ sizes (pieces entrySize s) = omega arith in
-      let f : frames ≡ length (map entry_of (pieces entrySize s)) = sym (add-zero frames) ∙ c ∙ sym (length-map (pieces entrySize s)) in
+  unfolding of_its_form entries_of
+  walking_ends place frames n w z =
+      let t = stop entry_size fits s place n w.here z in
+      let b : place + 0 ≡ sizes (pieces entry_size s) = rw t at w.bytes in
+      let c : frames + 0 ≡ length (pieces entry_size s) = rw t at w.count in
+      let p : place ≡ sizes (pieces entry_size s) = omega arith in
+      let f : frames ≡ length (map entry_of (pieces entry_size s)) = sym (add-zero frames) ∙ c ∙ sym (length-map (pieces entry_size s)) in
       λ i. record { whole = eqb (p i) (length s); frames = f i }
     where
       length-map : (xs : List (List ℕ)) → length (map entry_of xs) ≡ length xs
@@ -112,8 +112,8 @@ module _ (s : List ℕ) where
 -- ---- an entry put
 
 -- its head is the front of a record's
-pub entry-put : (l : List ℕ) (at : ℕ) (x : Put) (h p : List ℕ) (seconds microseconds : ℕ) (frame : List ℕ)
-    → h ≡ headBytes seconds microseconds (length frame) (length frame) → p ≡ take 12 (drop 0 h) → x ≡ put l at (p ++ frame)
-    → x ≡ put l at (entryBytes (record { seconds = seconds; microseconds = microseconds; frame = frame }))
-unfolding entryBytes entryHead headBytes word_bytes
-entry-put l at x h p seconds microseconds frame eh ep q = q ∙ rw (ep, eh)
+pub entry_put : (l : List ℕ) (at : ℕ) (x : Put) (h p : List ℕ) (seconds microseconds : ℕ) (frame : List ℕ)
+    → h ≡ head_bytes seconds microseconds (length frame) (length frame) → p ≡ take 12 (drop 0 h) → x ≡ put l at (p ++ frame)
+    → x ≡ put l at (entry_bytes (record { seconds = seconds; microseconds = microseconds; frame = frame }))
+unfolding entry_bytes entry_head head_bytes word_bytes
+entry_put l at x h p seconds microseconds frame eh ep q = q ∙ rw (ep, eh)

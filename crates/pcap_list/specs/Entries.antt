@@ -9,22 +9,22 @@ use Rattle.pcap_list.specs.declared.Listed.{Listed}
 -- ---- made
 
 -- seconds, microseconds, the length of the frame
-unfoldable pub entryHead : ℕ → ℕ → ℕ → List ℕ
-entryHead seconds microseconds n = word_bytes seconds ++ (word_bytes microseconds ++ word_bytes n)
+unfoldable pub entry_head : ℕ → ℕ → ℕ → List ℕ
+entry_head seconds microseconds n = word_bytes seconds ++ (word_bytes microseconds ++ word_bytes n)
 
 -- and the frame, from destination address to check sequence
-unfoldable pub entryBytes : Captured → List ℕ
-entryBytes c = entryHead c.seconds c.microseconds (length c.frame) ++ c.frame
+unfoldable pub entry_bytes : Captured → List ℕ
+entry_bytes c = entry_head c.seconds c.microseconds (length c.frame) ++ c.frame
 
-unfoldable pub listBytes : List Captured → List ℕ
-listBytes [] = []
-listBytes (c ∷ cs) = entryBytes c ++ listBytes cs
+unfoldable pub list_bytes : List Captured → List ℕ
+list_bytes [] = []
+list_bytes (c ∷ cs) = entry_bytes c ++ list_bytes cs
 
 -- ---- read
 
 -- how many bytes the entry at the front has, 0 where it is not whole: 12, and so many as it says
-unfoldable pub entrySize : List ℕ → ℕ
-entrySize s =
+unfoldable pub entry_size : List ℕ → ℕ
+entry_size s =
     if ltb (length s) 12 then 0 else
     if ltb (length s) (12 + word s 8) then 0 else
     12 + word s 8
@@ -34,14 +34,14 @@ abbrev pub entry_of : List ℕ → Captured
 entry_of x = record { seconds = word x 0; microseconds = word x 4; frame = drop 12 x }
 
 -- the whole entries of a list
-unfoldable pub entriesOf : List ℕ → List Captured
-entriesOf list = map entry_of (pieces entrySize list)
+unfoldable pub entries_of : List ℕ → List Captured
+entries_of list = map entry_of (pieces entry_size list)
 
 -- a list "of its form": whole entries, and nothing behind the last
-unfoldable pub ofItsForm : List ℕ → Bool
-ofItsForm list = eqb (sizes (pieces entrySize list)) (length list)
+unfoldable pub of_its_form : List ℕ → Bool
+of_its_form list = eqb (sizes (pieces entry_size list)) (length list)
 
 -- ---- as the code answers it
 
 abbrev pub listed : List ℕ → Listed
-listed list = record { whole = ofItsForm list; frames = length (entriesOf list) }
+listed list = record { whole = of_its_form list; frames = length (entries_of list) }

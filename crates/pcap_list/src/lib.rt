@@ -2,7 +2,7 @@
 // entry put behind others.
 ghost use Rattle.std.specs.Prelude.{◌≡◌, drop};
 ghost use Rattle.appending.specs.Put.{put_of, put};
-ghost use Rattle.pcap_list.specs.Entries.{entryBytes, entrySize, listed};
+ghost use Rattle.pcap_list.specs.Entries.{entry_bytes, entry_size, listed};
 
 // The bytes of an entry before its frame: the first of those that a record has.
 pub const HEAD: usize = 12;
@@ -16,7 +16,7 @@ pub struct Listed {
 
 // How many bytes the entry at a place has, 0 where there is no whole one.
 pub fn size_at(list: &[u8], place: usize) -> usize
-    ensures { result ≡ entrySize (drop place list.now) }
+    ensures { result ≡ entry_size (drop place list.now) }
 {
     if list.len() <= place {
         return 0;
@@ -53,7 +53,7 @@ pub fn walk(list: &[u8]) -> Listed
 // Puts a frame with its time behind the first `at` bytes of a list, and answers where its entry ends; 0, and the list as it was, where
 // it has no room. Of a time or a length that is longer than four bytes the lowest four are put.
 pub fn put(list: &mut [u8], at: usize, seconds: usize, microseconds: usize, frame: &[u8]) -> usize
-    ensures { put_of result list.new ≡ put list.old at (entryBytes (record { seconds = seconds; microseconds = microseconds; frame = frame.now })) }
+    ensures { put_of result list.new ≡ put list.old at (entry_bytes (record { seconds = seconds; microseconds = microseconds; frame = frame.now })) }
 {
     let head = pcap::head(seconds, microseconds, frame.len());
     let bytes = head.bytes;

@@ -8,29 +8,29 @@ use lib.Dec.{eqb, ltb}
 use lib.ListN.{length, drop, length-drop}
 use borrow.Author.Tests.{lt-ltb, le-ltb, ltb-false, eq-eqb, ne_eqb}
 use Rattle.rules.specs.Choice.{if◌then◌else◌}
-use Rattle.rules.proofs.Choices.{by-test, if_yes, if_no, or_yes, or-last, or_no, or_parts}
+use Rattle.rules.proofs.Choices.{by_test, if_yes, if_no, or_yes, or_last, or_no, or_parts}
 use Rattle.memory.specs.Memory.{word}
-use Rattle.memory.proofs.Parts.{word-from}
+use Rattle.memory.proofs.Parts.{word_from}
 use Rattle.pieces.proofs.Turns.{Fits}
 use Rattle.pcap_records.specs.declared.Found.{Found}
-use Rattle.pcap_records.specs.Records.{cutRecord, unequalLengths, recordSize, recordFault, found}
+use Rattle.pcap_records.specs.Records.{cut_record, unequal_lengths, record_size, record_fault, found}
 
 -- ---- the size of a record
 
-pub fits : Fits recordSize
-unfolding recordSize cutRecord
+pub fits : Fits record_size
+unfolding record_size cut_record
 fits s =
-    by-test (λ n. n ≤ length s) (cutRecord s) _ _ (λ t. omega arith)
+    by_test (λ n. n ≤ length s) (cut_record s) _ _ (λ t. omega arith)
     (λ t.
-    by-test (λ n. n ≤ length s) (unequalLengths s) _ _ (λ u. omega arith)
+    by_test (λ n. n ≤ length s) (unequal_lengths s) _ _ (λ u. omega arith)
     (λ u. ltb-false (length s) (16 + word s 8) (or_parts (ltb (length s) 16) (ltb (length s) (16 + word s 8)) t).1))
 
 -- a record has its 16 bytes before the frame
-pub least : (s : List ℕ) → (recordSize s ≡ 0 → ⊥) → 16 ≤ recordSize s
-unfolding recordSize
+pub least : (s : List ℕ) → (record_size s ≡ 0 → ⊥) → 16 ≤ record_size s
+unfolding record_size
 least s =
-    by-test (λ n. (n ≡ 0 → ⊥) → 16 ≤ n) (cutRecord s) _ _ (λ t h. absurd (h refl))
-    (λ t. by-test (λ n. (n ≡ 0 → ⊥) → 16 ≤ n) (unequalLengths s) _ _ (λ u h. absurd (h refl)) (λ u h. omega arith))
+    by_test (λ n. (n ≡ 0 → ⊥) → 16 ≤ n) (cut_record s) _ _ (λ t h. absurd (h refl))
+    (λ t. by_test (λ n. (n ≡ 0 → ⊥) → 16 ≤ n) (unequal_lengths s) _ _ (λ u h. absurd (h refl)) (λ u h. omega arith))
 
 -- ---- what stands at a place, by the ways out of the code
 
@@ -42,7 +42,7 @@ module _ (s : List ℕ) (p : ℕ) where
   long = length-drop p s
 
   pub nothing_left : length s ≤ p → ◌≡◌ {A = Found} (record { size = 0; number = 0 }) (found (drop p s))
-  unfolding recordSize recordFault cutRecord
+  unfolding record_size record_fault cut_record
   nothing_left h =
       let l = long in
       let cut = or_yes (ltb (length (drop p s)) 16) _ (lt-ltb (length (drop p s)) 16 (omega arith)) in
@@ -55,39 +55,39 @@ module _ (s : List ℕ) (p : ℕ) where
         let l = long in
         ne_eqb (length (drop p s)) 0 (λ q. omega arith)
 
-    by-cut : cutRecord (drop p s) ≡ true → ◌≡◌ {A = Found} (record { size = 0; number = 35 }) (found (drop p s))
-    unfolding recordSize recordFault
-    by-cut t = same (if_yes _ _ _ _ t refl) (if_no _ _ _ _ some (if_yes _ _ _ _ t refl))
+    by_cut : cut_record (drop p s) ≡ true → ◌≡◌ {A = Found} (record { size = 0; number = 35 }) (found (drop p s))
+    unfolding record_size record_fault
+    by_cut t = same (if_yes _ _ _ _ t refl) (if_no _ _ _ _ some (if_yes _ _ _ _ t refl))
 
-    pub cut-head : length s - p < 16 → ◌≡◌ {A = Found} (record { size = 0; number = 35 }) (found (drop p s))
-    unfolding cutRecord
-    cut-head h = by-cut (or_yes _ _ (lt-ltb (length (drop p s)) 16 (rw long h)))
+    pub cut_head : length s - p < 16 → ◌≡◌ {A = Found} (record { size = 0; number = 35 }) (found (drop p s))
+    unfolding cut_record
+    cut_head h = by_cut (or_yes _ _ (lt-ltb (length (drop p s)) 16 (rw long h)))
 
     module _ (n : ℕ) (head : 16 ≤ length s - p) (e : n ≡ word s (p + 8)) where
       captured : word (drop p s) 8 ≡ n
-      captured = word-from s p 8 ∙ sym e
+      captured = word_from s p 8 ∙ sym e
 
-      pub cut-frame : length s - p - 16 < n → ◌≡◌ {A = Found} (record { size = 0; number = 35 }) (found (drop p s))
-      unfolding cutRecord
-      cut-frame h =
+      pub cut_frame : length s - p - 16 < n → ◌≡◌ {A = Found} (record { size = 0; number = 35 }) (found (drop p s))
+      unfolding cut_record
+      cut_frame h =
           let l = long in
-          by-cut (or-last _ _ (le-ltb (length (drop p s)) 16 (omega arith)) (rw captured (lt-ltb (length (drop p s)) (16 + n) (omega arith))))
+          by_cut (or_last _ _ (le-ltb (length (drop p s)) 16 (omega arith)) (rw captured (lt-ltb (length (drop p s)) (16 + n) (omega arith))))
 
       module _ (h : n ≤ length s - p - 16) (m : ℕ) (d : m ≡ word s (p + 12)) where
-        whole : cutRecord (drop p s) ≡ false
-        unfolding cutRecord
+        whole : cut_record (drop p s) ≡ false
+        unfolding cut_record
         whole =
             let l = long in
             or_no _ _ (le-ltb (length (drop p s)) 16 (omega arith)) (rw captured (le-ltb (length (drop p s)) (16 + n) (omega arith)))
 
         pub unequal : (n ≡ m → ⊥) → ◌≡◌ {A = Found} (record { size = 0; number = 36 }) (found (drop p s))
-        unfolding recordSize recordFault unequalLengths
+        unfolding record_size record_fault unequal_lengths
         unequal g =
-            let t : unequalLengths (drop p s) ≡ true = rw (captured, word-from s p 12, ← d, ne_eqb n m g) in
+            let t : unequal_lengths (drop p s) ≡ true = rw (captured, word_from s p 12, ← d, ne_eqb n m g) in
             same (if_no _ _ _ _ whole (if_yes _ _ _ _ t refl)) (if_no _ _ _ _ some (if_no _ _ _ _ whole (if_yes _ _ _ _ t refl)))
 
         pub equal : n ≡ m → ◌≡◌ {A = Found} (record { size = 16 + n; number = 0 }) (found (drop p s))
-        unfolding recordSize recordFault unequalLengths
+        unfolding record_size record_fault unequal_lengths
         equal g =
-            let t : unequalLengths (drop p s) ≡ false = rw (captured, word-from s p 12, ← d, eq-eqb n m g) in
+            let t : unequal_lengths (drop p s) ≡ false = rw (captured, word_from s p 12, ← d, eq-eqb n m g) in
             same (if_no _ _ _ _ whole (if_no _ _ _ _ t (rw captured))) (if_no _ _ _ _ some (if_no _ _ _ _ whole (if_no _ _ _ _ t refl)))

@@ -9,120 +9,120 @@ use lib.Dec.{ltb}
 use lib.ListN.{length, take, drop, length-append, length-drop}
 use borrow.Author.Tests.{lt-ltb, le-ltb, ltb-true, ltb-false}
 use Rattle.rules.proofs.Choices.{by_bool}
-use Rattle.fcs.specs.CheckSequence.{checkSequence}
-use Rattle.fcs.proofs.Meaning.{length-sequence}
+use Rattle.fcs.specs.CheckSequence.{check_sequence}
+use Rattle.fcs.proofs.Meaning.{length_sequence}
 use Rattle.pieces.specs.Pieces.{pieces, sizes, behind}
 use Rattle.pieces.proofs.Turns.{turn, stop, lies, has}
 use Rattle.pcap.specs.Capture.{Captured}
 use Rattle.pcap_records.specs.declared.Found.{Found}
 use Rattle.pcap_records.specs.declared.Walked.{Walked}
-use Rattle.pcap_records.specs.Records.{recordSize, recordFault, recordsFault, withCheck, capturedOf, framesOf, storable, allStorable, found, walked}
+use Rattle.pcap_records.specs.Records.{record_size, record_fault, records_fault, with_check, captured_of, frames_of, storable, all_storable, found, walked}
 use Rattle.pcap_records.proofs.Laws.{fits, least}
 
 -- ---- how long a frame is
 
-pub length-closed : (m : List ℕ) → length (withCheck m) ≡ length m + 4
-length-closed m = length-append m (checkSequence m) ∙ ap (λ (n : ℕ). length m + n) (length-sequence m)
+pub length_closed : (m : List ℕ) → length (with_check m) ≡ length m + 4
+length_closed m = length-append m (check_sequence m) ∙ ap (λ (n : ℕ). length m + n) (length_sequence m)
 
-pub length-frame : (x : List ℕ) → 16 ≤ length x → length (capturedOf x).frame + 12 ≡ length x
-length-frame x h =
+pub length_frame : (x : List ℕ) → 16 ≤ length x → length (captured_of x).frame + 12 ≡ length x
+length_frame x h =
     let d = length-drop 16 x in
-    let c = length-closed (drop 16 x) in
+    let c = length_closed (drop 16 x) in
     omega arith
 
 -- the code tests it by the record's bytes
-same_test : (x : List ℕ) (n : ℕ) → 16 ≤ length x → length x ≡ n → ltb n 4294967308 ≡ storable (capturedOf x).frame
+same_test : (x : List ℕ) (n : ℕ) → 16 ≤ length x → length x ≡ n → ltb n 4294967308 ≡ storable (captured_of x).frame
 unfolding storable
 same_test x n h e =
-    let l = length-frame x h in
-    by_bool (ltb (length (capturedOf x).frame) (2 ^ 32))
+    let l = length_frame x h in
+    by_bool (ltb (length (captured_of x).frame) (2 ^ 32))
     (λ t.
-    let k = ltb-true (length (capturedOf x).frame) (2 ^ 32) t in
+    let k = ltb-true (length (captured_of x).frame) (2 ^ 32) t in
     lt-ltb n 4294967308 (omega arith) ∙ sym t)
     (λ t.
-    let k = ltb-false (length (capturedOf x).frame) (2 ^ 32) t in
+    let k = ltb-false (length (captured_of x).frame) (2 ^ 32) t in
     le-ltb n 4294967308 (omega arith) ∙ sym t)
 
 -- ---- one test more
 
-pub not-before : (before : Bool) (n : ℕ) → not before ≡ true → false ≡ (before && ltb n 4294967308)
-not-before true n h = absurd (true≢false (sym h))
-not-before false n h = refl
+pub not_before : (before : Bool) (n : ℕ) → not before ≡ true → false ≡ (before && ltb n 4294967308)
+not_before true n h = absurd (true≢false (sym h))
+not_before false n h = refl
 
-pub before-too : (before : Bool) (n : ℕ) → not before ≡ false → ltb n 4294967308 ≡ (before && ltb n 4294967308)
-before-too true n h = refl
-before-too false n h = absurd (true≢false h)
+pub before_too : (before : Bool) (n : ℕ) → not before ≡ false → ltb n 4294967308 ≡ (before && ltb n 4294967308)
+before_too true n h = refl
+before_too false n h = absurd (true≢false h)
 
 and_assoc : (a b c : Bool) → ((a && b) && c) ≡ (a && (b && c))
 and_assoc true b c = refl
 and_assoc false b c = refl
 
-and-true : (a : Bool) → (a && true) ≡ a
-and-true true = refl
-and-true false = refl
+and_true : (a : Bool) → (a && true) ≡ a
+and_true true = refl
+and_true false = refl
 
 -- ---- the walk: at a place, so many records before it
 
 abbrev pub ahead : List ℕ → ℕ → List Captured
-ahead s place = map capturedOf (pieces recordSize (drop place s))
+ahead s place = map captured_of (pieces record_size (drop place s))
 
 pub record Walking (s : List ℕ) (place frames : ℕ) (fit : Bool) (f : Found) : Type 0 where
   pub here : f ≡ found (drop place s)
   pub few : frames ≤ place
   pub inside : place ≤ length s
-  pub bytes : place + sizes (pieces recordSize (drop place s)) ≡ sizes (pieces recordSize s)
-  pub count : frames + length (ahead s place) ≡ length (framesOf s)
-  pub fitting : (fit && allStorable (ahead s place)) ≡ allStorable (framesOf s)
+  pub bytes : place + sizes (pieces record_size (drop place s)) ≡ sizes (pieces record_size s)
+  pub count : frames + length (ahead s place) ≡ length (frames_of s)
+  pub fitting : (fit && all_storable (ahead s place)) ≡ all_storable (frames_of s)
 
 -- how many bytes the record here has
-pub size-here : (s : List ℕ) (place : ℕ) (f : Found) → f ≡ found (drop place s) → f.size ≡ recordSize (drop place s)
-size-here s place f e = ap (λ (g : Found). g.size) e
+pub size_here : (s : List ℕ) (place : ℕ) (f : Found) → f ≡ found (drop place s) → f.size ≡ record_size (drop place s)
+size_here s place f e = ap (λ (g : Found). g.size) e
 
 module _ (s : List ℕ) where
-  pub walking-begins : (f : Found) → f ≡ found (drop 0 s) → Walking s 0 0 true f
-  unfolding framesOf
-  walking-begins f e =
+  pub walking_begins : (f : Found) → f ≡ found (drop 0 s) → Walking s 0 0 true f
+  unfolding frames_of
+  walking_begins f e =
       record { here = e; few = omega arith; inside = omega arith; bytes = omega arith; count = omega arith; fitting = refl }
 
   module _ (place frames : ℕ) (fit : Bool) (f : Found) (w : Walking s place frames fit f) where
-    here : f.size ≡ recordSize (drop place s)
-    here = size-here s place f w.here
+    here : f.size ≡ record_size (drop place s)
+    here = size_here s place f w.here
 
-    pub walking-room : place + f.size ≤ length s
-    walking-room = lies recordSize fits s place f.size here w.inside
+    pub walking_room : place + f.size ≤ length s
+    walking_room = lies record_size fits s place f.size here w.inside
 
     pub walking_on : (fit' : Bool) (g : Found) → (f.size ≡ 0 → ⊥) → fit' ≡ (fit && ltb f.size 4294967308) → g ≡ found (drop (place + f.size) s)
         → Walking s (place + f.size) (frames + 1) fit' g
-    unfolding allStorable
+    unfolding all_storable
     walking_on fit' g some ef e =
         let n = f.size in
-        let t = turn recordSize fits s place n here some in
+        let t = turn record_size fits s place n here some in
         let x = take n (drop place s) in
-        let h : length x ≡ n = has recordSize fits s place n here in
+        let h : length x ≡ n = has record_size fits s place n here in
         let k = here in
         let l : 16 ≤ length x =
         let m = least (drop place s) (λ q. some (k ∙ q)) in
         omega arith in
         let b = w.bytes in
         let few = w.few in
-        let bs : place + (length x + sizes (pieces recordSize (drop (place + n) s))) ≡ sizes (pieces recordSize s) = rw t at b in
-        let one : ahead s place ≡ capturedOf x ∷ ahead s (place + n) = ap (λ (xs : List (List ℕ)). map capturedOf xs) t in
+        let bs : place + (length x + sizes (pieces record_size (drop (place + n) s))) ≡ sizes (pieces record_size s) = rw t at b in
+        let one : ahead s place ≡ captured_of x ∷ ahead s (place + n) = ap (λ (xs : List (List ℕ)). map captured_of xs) t in
         let c = ap (λ (cs : List Captured). frames + length cs) (sym one) ∙ w.count in
-        let a : (fit' && allStorable (ahead s (place + n))) ≡ allStorable (framesOf s) =
-        ap (λ (y : Bool). y && allStorable (ahead s (place + n))) (ef ∙ ap (λ (y : Bool). fit && y) (same_test x n l h))
-        ∙ and_assoc fit (storable (capturedOf x).frame) (allStorable (ahead s (place + n)))
-        ∙ ap (λ (cs : List Captured). fit && allStorable cs) (sym one)
+        let a : (fit' && all_storable (ahead s (place + n))) ≡ all_storable (frames_of s) =
+        ap (λ (y : Bool). y && all_storable (ahead s (place + n))) (ef ∙ ap (λ (y : Bool). fit && y) (same_test x n l h))
+        ∙ and_assoc fit (storable (captured_of x).frame) (all_storable (ahead s (place + n)))
+        ∙ ap (λ (cs : List Captured). fit && all_storable cs) (sym one)
         ∙ w.fitting in
-        record { here = e; few = omega arith; inside = walking-room; bytes = omega arith; count = omega arith; fitting = a }
+        record { here = e; few = omega arith; inside = walking_room; bytes = omega arith; count = omega arith; fitting = a }
 
-    pub walking-ends : f.size ≡ 0 → ◌≡◌ {A = Walked} (record { number = f.number; frames = frames; storable = fit }) (walked s)
-    unfolding recordsFault allStorable
-    walking-ends z =
-        let t = stop recordSize fits s place f.size here z in
-        let b : place + 0 ≡ sizes (pieces recordSize s) = rw t at w.bytes in
-        let p : place ≡ sizes (pieces recordSize s) = omega arith in
-        let none : ahead s place ≡ [] = ap (λ (xs : List (List ℕ)). map capturedOf xs) t in
-        let q : frames ≡ length (framesOf s) = sym (add-zero frames) ∙ ap (λ (cs : List Captured). frames + length cs) (sym none) ∙ w.count in
-        let g : fit ≡ allStorable (framesOf s) = sym (and-true fit) ∙ ap (λ (cs : List Captured). fit && allStorable cs) (sym none) ∙ w.fitting in
-        let k : f.number ≡ recordFault (drop (sizes (pieces recordSize s)) s) = ap (λ (y : Found). y.number) w.here ∙ rw p in
+    pub walking_ends : f.size ≡ 0 → ◌≡◌ {A = Walked} (record { number = f.number; frames = frames; storable = fit }) (walked s)
+    unfolding records_fault all_storable
+    walking_ends z =
+        let t = stop record_size fits s place f.size here z in
+        let b : place + 0 ≡ sizes (pieces record_size s) = rw t at w.bytes in
+        let p : place ≡ sizes (pieces record_size s) = omega arith in
+        let none : ahead s place ≡ [] = ap (λ (xs : List (List ℕ)). map captured_of xs) t in
+        let q : frames ≡ length (frames_of s) = sym (add-zero frames) ∙ ap (λ (cs : List Captured). frames + length cs) (sym none) ∙ w.count in
+        let g : fit ≡ all_storable (frames_of s) = sym (and_true fit) ∙ ap (λ (cs : List Captured). fit && all_storable cs) (sym none) ∙ w.fitting in
+        let k : f.number ≡ record_fault (drop (sizes (pieces record_size s)) s) = ap (λ (y : Found). y.number) w.here ∙ rw p in
         λ i. record { number = k i; frames = q i; storable = g i }

@@ -1,6 +1,6 @@
 // The records of a capture, behind its header (02, Wish 7; docs/CAPTURE.md): the one at a place, and a walk along them.
 ghost use Rattle.std.specs.Prelude.{◌≡◌, ◌&&◌, ltb, drop};
-ghost use Rattle.pcap_records.specs.Records.{recordSize, found, walked};
+ghost use Rattle.pcap_records.specs.Records.{record_size, found, walked};
 
 // What the records are: 0 where all are right, else the number of the first that is wrong; how many are before it, and whether the
 // frame of each of these has a length of 32 bits with its check sequence.
@@ -60,7 +60,7 @@ fn at(records: &[u8], place: usize) -> Found
 
 // How many bytes the record at a place has, 0 where it is cut or its lengths are unequal.
 pub fn size_at(records: &[u8], place: usize) -> usize
-    ensures { result ≡ recordSize (drop place records.now) }
+    ensures { result ≡ record_size (drop place records.now) }
 {
     let found = at(records, place);
     found.size

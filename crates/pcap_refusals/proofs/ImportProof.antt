@@ -12,162 +12,162 @@ use lib.ListN.{length, take, drop, length-take}
 use lib.Seq.{drop-drop}
 use borrow.Author.Tests.{ltb-true, ltb-false, eq-eqb, ne_eqb, eqb-true, eqb-false}
 use Rattle.rules.specs.Choice.{if◌then◌else◌, ◌otherwise◌}
-use Rattle.rules.proofs.Choices.{by_bool, either, or_parts, said-yes, said-no}
+use Rattle.rules.proofs.Choices.{by_bool, either, or_parts, said_yes, said_no}
 use Rattle.memory.specs.Memory.{word, store}
-use Rattle.memory.proofs.Parts.{word-from, word_in}
+use Rattle.memory.proofs.Parts.{word_from, word_in}
 use Rattle.pieces.specs.Pieces.{pieces_by, pieces, behind}
 use Rattle.pieces.proofs.Joined.{together, whole}
-use Rattle.pcap.specs.Capture.{Captured, magic, version, linkType}
-use Rattle.pcap_records.specs.Records.{cutRecord, unequalLengths, recordSize, recordFault, recordsFault, allStorable}
+use Rattle.pcap.specs.Capture.{Captured, magic, version, link_type}
+use Rattle.pcap_records.specs.Records.{cut_record, unequal_lengths, record_size, record_fault, records_fault, all_storable}
 use Rattle.pcap_records.proofs.Laws.{fits}
-use Rattle.pcap_import.specs.Import.{headerFault, importedFrames, eventsOf, timesOf, tooLittle, importNumber, look, import}
-use Rattle.pcap_import.proofs.Lengths.{length-times}
+use Rattle.pcap_import.specs.Import.{header_fault, imported_frames, events_of, times_of, too_little, import_number, look, import}
+use Rattle.pcap_import.proofs.Lengths.{length_times}
 use Rattle.pcap_import.proofs.Ways.{no_more}
 use Rattle.pcap_refusals.specs.Import.{Header, Right, AllRight, FirstWrong, NoneWrong, TooLittle, Enough, Says, Exactly, ChangesNothing, Alike, NotRead}
 
 -- ---- the records
 
 abbrev Walked : List ℕ → Type 0
-Walked s = (FirstWrong s (recordsFault s) × (recordsFault s ≡ 0 → ⊥)) ⊎ (NoneWrong s × (recordsFault s ≡ 0))
+Walked s = (FirstWrong s (records_fault s) × (records_fault s ≡ 0 → ⊥)) ⊎ (NoneWrong s × (records_fault s ≡ 0))
 
 -- a record at the front lies in the string
-has-size : (s : List ℕ) → length (take (recordSize s) s) ≡ recordSize s
-has-size s =
+has_size : (s : List ℕ) → length (take (record_size s) s) ≡ record_size s
+has_size s =
     let k = fits s in
-    length-take (recordSize s) s ∙ omega arith
+    length-take (record_size s) s ∙ omega arith
 
 -- the pieces of a string are right records
-front-right : (s : List ℕ) → (recordSize s ≡ 0 → ⊥) → Right (take (recordSize s) s)
-unfolding recordSize unequalLengths
-front-right s h =
-    by_bool (cutRecord s) (λ t. absurd (h (rw t)))
+front_right : (s : List ℕ) → (record_size s ≡ 0 → ⊥) → Right (take (record_size s) s)
+unfolding record_size unequal_lengths
+front_right s h =
+    by_bool (cut_record s) (λ t. absurd (h (rw t)))
     (λ t.
-    by_bool (unequalLengths s) (λ u. absurd (h (rw (t, u))))
+    by_bool (unequal_lengths s) (λ u. absurd (h (rw (t, u))))
     (λ u.
-    let n : recordSize s ≡ 16 + word s 8 = rw (t, u) in
-    let e : word s 8 ≡ word s 12 = eqb-true (word s 8) (word s 12) (said-yes (eqb (word s 8) (word s 12)) _ refl u) in
-    let l : length (take (recordSize s) s) ≡ recordSize s = has-size s in
-    let w8 : word (take (recordSize s) s) 8 ≡ word s 8 = word_in s 0 (recordSize s) 8 (omega arith) in
-    let w12 : word (take (recordSize s) s) 12 ≡ word s 12 = word_in s 0 (recordSize s) 12 (omega arith) in
+    let n : record_size s ≡ 16 + word s 8 = rw (t, u) in
+    let e : word s 8 ≡ word s 12 = eqb-true (word s 8) (word s 12) (said_yes (eqb (word s 8) (word s 12)) _ refl u) in
+    let l : length (take (record_size s) s) ≡ record_size s = has_size s in
+    let w8 : word (take (record_size s) s) 8 ≡ word s 8 = word_in s 0 (record_size s) 8 (omega arith) in
+    let w12 : word (take (record_size s) s) 12 ≡ word s 12 = word_in s 0 (record_size s) 12 (omega arith) in
     (omega arith, w8 ∙ e ∙ sym w12)))
 
-pieces-right : (n : ℕ) (s : List ℕ) → AllRight (pieces_by recordSize n s)
+pieces_right : (n : ℕ) (s : List ℕ) → AllRight (pieces_by record_size n s)
 unfolding pieces_by
-pieces-right zero s = tt
-pieces-right (suc n) s =
-    by_bool (eqb (recordSize s) 0) (λ t. rw t tt)
-    (λ t. rw t (front-right s (eqb-false (recordSize s) 0 t), pieces-right n (drop (recordSize s) s)))
+pieces_right zero s = tt
+pieces_right (suc n) s =
+    by_bool (eqb (record_size s) 0) (λ t. rw t tt)
+    (λ t. rw t (front_right s (eqb-false (record_size s) 0 t), pieces_right n (drop (record_size s) s)))
 
-none-wrong : (s : List ℕ) → recordsFault s ≡ 0 → NoneWrong s
-none-wrong s e =
-    record { records = pieces recordSize s; there = whole recordSize fits s (no_more s e); right = pieces-right (length s) s }
+none_wrong : (s : List ℕ) → records_fault s ≡ 0 → NoneWrong s
+none_wrong s e =
+    record { records = pieces record_size s; there = whole record_size fits s (no_more s e); right = pieces_right (length s) s }
 
 -- the first that is wrong stands behind them
-first-wrong : (s : List ℕ) (n : ℕ) → 0 < length (behind recordSize s)
-    → ((cutRecord (behind recordSize s) ≡ true) × (n ≡ 35)) ⊎ ((cutRecord (behind recordSize s) ≡ false) × (unequalLengths (behind recordSize s) ≡ true) × (n ≡ 36))
+first_wrong_lem : (s : List ℕ) (n : ℕ) → 0 < length (behind record_size s)
+    → ((cut_record (behind record_size s) ≡ true) × (n ≡ 35)) ⊎ ((cut_record (behind record_size s) ≡ false) × (unequal_lengths (behind record_size s) ≡ true) × (n ≡ 36))
     → FirstWrong s n
-first-wrong s n some wrong =
+first_wrong_lem s n some wrong =
     record {
-      before = pieces recordSize s;
-      rest = behind recordSize s;
-      there = together recordSize fits s;
-      right = pieces-right (length s) s;
+      before = pieces record_size s;
+      rest = behind record_size s;
+      there = together record_size fits s;
+      right = pieces_right (length s) s;
       some = some;
       wrong = wrong;
     }
 
 walked : (s : List ℕ) → Walked s
-unfolding recordsFault recordFault
+unfolding records_fault record_fault
 walked s =
-    let r = behind recordSize s in
-    by_bool (eqb (length r) 0) (λ t. let z : recordsFault s ≡ 0 = rw t in inr (none-wrong s z, z))
+    let r = behind record_size s in
+    by_bool (eqb (length r) 0) (λ t. let z : records_fault s ≡ 0 = rw t in inr (none_wrong s z, z))
     (λ t.
     let some = eqb-false (length r) 0 t in
-    by_bool (cutRecord r)
-    (λ u. inl (first-wrong s (recordsFault s) (omega arith) (inl (u, rw (t, u))), λ q. let z : ◌≡◌ {A = ℕ} 35 0 = rw (t, u) at q in omega arith))
+    by_bool (cut_record r)
+    (λ u. inl (first_wrong_lem s (records_fault s) (omega arith) (inl (u, rw (t, u))), λ q. let z : ◌≡◌ {A = ℕ} 35 0 = rw (t, u) at q in omega arith))
     (λ u.
-    by_bool (unequalLengths r)
-    (λ v. inl (first-wrong s (recordsFault s) (omega arith) (inr (u, v, rw (t, u, v))), λ q. let z : ◌≡◌ {A = ℕ} 36 0 = rw (t, u, v) at q in omega arith))
-    (λ v. let z : recordsFault s ≡ 0 = rw (t, u, v) in inr (none-wrong s z, z))))
+    by_bool (unequal_lengths r)
+    (λ v. inl (first_wrong_lem s (records_fault s) (omega arith) (inr (u, v, rw (t, u, v))), λ q. let z : ◌≡◌ {A = ℕ} 36 0 = rw (t, u, v) at q in omega arith))
+    (λ v. let z : records_fault s ≡ 0 = rw (t, u, v) in inr (none_wrong s z, z))))
 
 -- ---- the rooms
 
-little : (cs : List Captured) (events times : ℕ) → tooLittle cs events times ≡ true → TooLittle cs events times
-unfolding tooLittle
+little : (cs : List Captured) (events times : ℕ) → too_little cs events times ≡ true → TooLittle cs events times
+unfolding too_little
 little cs events times t =
-    by-either (either (not (allStorable cs)) (ltb events (length (eventsOf cs)) || ltb times (length (timesOf cs))) t)
+    by_either (either (not (all_storable cs)) (ltb events (length (events_of cs)) || ltb times (length (times_of cs))) t)
   where
-    by-rooms : (ltb events (length (eventsOf cs)) ≡ true) ⊎ (ltb times (length (timesOf cs)) ≡ true) → TooLittle cs events times
-    by-rooms (inl e) = inr (inl (ltb-true events (length (eventsOf cs)) e))
-    by-rooms (inr e) =
-        let l = length-times cs in
-        let k = ltb-true times (length (timesOf cs)) e in
+    by_rooms : (ltb events (length (events_of cs)) ≡ true) ⊎ (ltb times (length (times_of cs)) ≡ true) → TooLittle cs events times
+    by_rooms (inl e) = inr (inl (ltb-true events (length (events_of cs)) e))
+    by_rooms (inr e) =
+        let l = length_times cs in
+        let k = ltb-true times (length (times_of cs)) e in
         inr (inr (omega arith))
 
-    by-either : (not (allStorable cs) ≡ true) ⊎ ((ltb events (length (eventsOf cs)) || ltb times (length (timesOf cs))) ≡ true) → TooLittle cs events times
-    by-either (inl e) = inl (said-no (allStorable cs) _ refl e)
-    by-either (inr e) = by-rooms (either (ltb events (length (eventsOf cs))) (ltb times (length (timesOf cs))) e)
+    by_either : (not (all_storable cs) ≡ true) ⊎ ((ltb events (length (events_of cs)) || ltb times (length (times_of cs))) ≡ true) → TooLittle cs events times
+    by_either (inl e) = inl (said_no (all_storable cs) _ refl e)
+    by_either (inr e) = by_rooms (either (ltb events (length (events_of cs))) (ltb times (length (times_of cs))) e)
 
-enough : (cs : List Captured) (events times : ℕ) → tooLittle cs events times ≡ false → Enough cs events times
-unfolding tooLittle
+enough : (cs : List Captured) (events times : ℕ) → too_little cs events times ≡ false → Enough cs events times
+unfolding too_little
 enough cs events times t =
-    let a = or_parts (not (allStorable cs)) (ltb events (length (eventsOf cs)) || ltb times (length (timesOf cs))) t in
-    let b = or_parts (ltb events (length (eventsOf cs))) (ltb times (length (timesOf cs))) a.1 in
-    let l = length-times cs in
-    let k = ltb-false times (length (timesOf cs)) b.1 in
-    (said-yes (allStorable cs) _ refl a.0, ltb-false events (length (eventsOf cs)) b.0, omega arith)
+    let a = or_parts (not (all_storable cs)) (ltb events (length (events_of cs)) || ltb times (length (times_of cs))) t in
+    let b = or_parts (ltb events (length (events_of cs))) (ltb times (length (times_of cs))) a.1 in
+    let l = length_times cs in
+    let k = ltb-false times (length (times_of cs)) b.1 in
+    (said_yes (all_storable cs) _ refl a.0, ltb-false events (length (events_of cs)) b.0, omega arith)
 
 -- ---- the number
 
 module _ (file : List ℕ) (events times : ℕ) where
   -- a header that is asked for, then the records, then the room
-  by-header : Header file → headerFault file ≡ 0 → Says file events times
-  unfolding importNumber
-  by-header h e =
-      by-walk (walked (drop 24 file)) e
+  by_header : Header file → header_fault file ≡ 0 → Says file events times
+  unfolding import_number
+  by_header h e =
+      by_walk (walked (drop 24 file)) e
     where
-      by-walk : Walked (drop 24 file) → headerFault file ≡ 0 → Says file events times
-      by-walk (inl a) e =
-          inr (inr (inr (inr (inl (h, rw (eq-eqb (headerFault file) 0 e, ne_eqb (recordsFault (drop 24 file)) 0 a.1) a.0)))))
-      by-walk (inr a) e =
-          let r = (eq-eqb (headerFault file) 0 e) in
-          let q = (eq-eqb (recordsFault (drop 24 file)) 0 a.1) in
-          by_bool (tooLittle (importedFrames file) events times)
-          (λ t. inr (inr (inr (inr (inr (inl (h, a.0, little (importedFrames file) events times t, rw (r, q, t))))))))
-          (λ t. inr (inr (inr (inr (inr (inr (h, a.0, enough (importedFrames file) events times t, rw (r, q, t))))))))
+      by_walk : Walked (drop 24 file) → header_fault file ≡ 0 → Says file events times
+      by_walk (inl a) e =
+          inr (inr (inr (inr (inl (h, rw (eq-eqb (header_fault file) 0 e, ne_eqb (records_fault (drop 24 file)) 0 a.1) a.0)))))
+      by_walk (inr a) e =
+          let r = (eq-eqb (header_fault file) 0 e) in
+          let q = (eq-eqb (records_fault (drop 24 file)) 0 a.1) in
+          by_bool (too_little (imported_frames file) events times)
+          (λ t. inr (inr (inr (inr (inr (inl (h, a.0, little (imported_frames file) events times t, rw (r, q, t))))))))
+          (λ t. inr (inr (inr (inr (inr (inr (h, a.0, enough (imported_frames file) events times t, rw (r, q, t))))))))
 
-  fault-cut : ltb (length file) 24 ≡ true → headerFault file ≡ 31
-  unfolding headerFault
-  fault-cut t = rw t
+  fault_cut : ltb (length file) 24 ≡ true → header_fault file ≡ 31
+  unfolding header_fault
+  fault_cut t = rw t
 
   module _ (t : ltb (length file) 24 ≡ false) where
-    fault-magic : eqb (word file 0) magic ≡ false → headerFault file ≡ 32
-    unfolding headerFault
-    fault-magic u = rw (t, u)
+    fault_magic : eqb (word file 0) magic ≡ false → header_fault file ≡ 32
+    unfolding header_fault
+    fault_magic u = rw (t, u)
 
     module _ (u : eqb (word file 0) magic ≡ true) where
-      fault-version : eqb (word file 4) version ≡ false → headerFault file ≡ 33
-      unfolding headerFault
-      fault-version v = rw (t, u, v)
+      fault_version : eqb (word file 4) version ≡ false → header_fault file ≡ 33
+      unfolding header_fault
+      fault_version v = rw (t, u, v)
 
       module _ (v : eqb (word file 4) version ≡ true) where
-        fault-link : eqb (word file 20) linkType ≡ false → headerFault file ≡ 34
-        unfolding headerFault
-        fault-link w = rw (t, u, v, w)
+        fault_link : eqb (word file 20) link_type ≡ false → header_fault file ≡ 34
+        unfolding header_fault
+        fault_link w = rw (t, u, v, w)
 
-        fault-none : eqb (word file 20) linkType ≡ true → headerFault file ≡ 0
-        unfolding headerFault
-        fault-none w = rw (t, u, v, w)
+        fault_none : eqb (word file 20) link_type ≡ true → header_fault file ≡ 0
+        unfolding header_fault
+        fault_none w = rw (t, u, v, w)
 
   -- a refusal of the header
-  by-fault : (n : ℕ) → headerFault file ≡ n → (n ≡ 0 → ⊥) → importNumber file events times ≡ n
-  unfolding importNumber
-  by-fault n e h = rw (e, ne_eqb n 0 h)
+  by_fault : (n : ℕ) → header_fault file ≡ n → (n ≡ 0 → ⊥) → import_number file events times ≡ n
+  unfolding import_number
+  by_fault n e h = rw (e, ne_eqb n 0 h)
 
-  exactly-of : Says file events times
-  exactly-of =
+  exactly_of : Says file events times
+  exactly_of =
       by_bool (ltb (length file) 24)
-      (λ t. inl (ltb-true (length file) 24 t, by-fault 31 (fault-cut t) (λ q. omega arith)))
+      (λ t. inl (ltb-true (length file) 24 t, by_fault 31 (fault_cut t) (λ q. omega arith)))
       (λ t.
       let long = ltb-false (length file) 24 t in
       by_bool (eqb (word file 0) magic)
@@ -176,44 +176,44 @@ module _ (file : List ℕ) (events times : ℕ) where
       by_bool (eqb (word file 4) version)
       (λ v.
       let k = eqb-true (word file 4) version v in
-      by_bool (eqb (word file 20) linkType)
-      (λ w. by-header (long, m, k, eqb-true (word file 20) linkType w) (fault-none t u v w))
-      (λ w. inr (inr (inr (inl (long, m, k, eqb-false (word file 20) linkType w, by-fault 34 (fault-link t u v w) (λ q. omega arith)))))))
-      (λ v. inr (inr (inl (long, m, eqb-false (word file 4) version v, by-fault 33 (fault-version t u v) (λ q. omega arith))))))
-      (λ u. inr (inl (long, eqb-false (word file 0) magic u, by-fault 32 (fault-magic t u) (λ q. omega arith)))))
+      by_bool (eqb (word file 20) link_type)
+      (λ w. by_header (long, m, k, eqb-true (word file 20) link_type w) (fault_none t u v w))
+      (λ w. inr (inr (inr (inl (long, m, k, eqb-false (word file 20) link_type w, by_fault 34 (fault_link t u v w) (λ q. omega arith)))))))
+      (λ v. inr (inr (inl (long, m, eqb-false (word file 4) version v, by_fault 33 (fault_version t u v) (λ q. omega arith))))))
+      (λ u. inr (inl (long, eqb-false (word file 0) magic u, by_fault 32 (fault_magic t u) (λ q. omega arith)))))
 
-pub import-exactly : Exactly
-import-exactly file events times = exactly-of file events times
+pub import_exactly : Exactly
+import_exactly file events times = exactly_of file events times
 
-pub import-changes-nothing : ChangesNothing
+pub import_changes_nothing : ChangesNothing
 unfolding import look
-import-changes-nothing file events times =
-    by_bool (eqb (importNumber file (length events) (length times)) 0)
+import_changes_nothing file events times =
+    by_bool (eqb (import_number file (length events) (length times)) 0)
     (λ t. rw t (λ h. absurd (h refl)))
     (λ t. rw (t, t) (λ h. (refl, refl, refl, refl)))
 
 -- ---- "not read on import"
 
 module _ (f g : List ℕ) (a : Alike f g) where
-  same-front : (k : ℕ) → k + 4 ≤ 8 → word f k ≡ word g k
-  same-front k h =
+  same_front : (k : ℕ) → k + 4 ≤ 8 → word f k ≡ word g k
+  same_front k h =
       let at : (l : List ℕ) → word (take 8 l) k ≡ word l k = λ l. word_in l 0 8 k h ∙ rw (zero-add k) in
       sym (at f) ∙ ap (λ (l : List ℕ). word l k) a.front ∙ at g
 
-  same-link : word f 20 ≡ word g 20
-  same-link = sym (word-from f 20 0) ∙ ap (λ (l : List ℕ). word l 0) a.rest ∙ word-from g 20 0
+  same_link : word f 20 ≡ word g 20
+  same_link = sym (word_from f 20 0) ∙ ap (λ (l : List ℕ). word l 0) a.rest ∙ word_from g 20 0
 
-  same-records : drop 24 f ≡ drop 24 g
-  same-records = sym (drop-drop 4 20 f) ∙ ap (λ (l : List ℕ). drop 4 l) a.rest ∙ drop-drop 4 20 g
+  same_records : drop 24 f ≡ drop 24 g
+  same_records = sym (drop-drop 4 20 f) ∙ ap (λ (l : List ℕ). drop 4 l) a.rest ∙ drop-drop 4 20 g
 
-  same-header : headerFault f ≡ headerFault g
-  unfolding headerFault
-  same-header = rw (a.long, same-front 0 (omega arith), same-front 4 (omega arith), same-link)
+  same_header : header_fault f ≡ header_fault g
+  unfolding header_fault
+  same_header = rw (a.long, same_front 0 (omega arith), same_front 4 (omega arith), same_link)
 
-  same_number : (events times : ℕ) → importNumber f events times ≡ importNumber g events times
-  unfolding importNumber
-  same_number events times = rw (same-header, same-records)
+  same_number : (events times : ℕ) → import_number f events times ≡ import_number g events times
+  unfolding import_number
+  same_number events times = rw (same_header, same_records)
 
-pub not-read : NotRead
+pub not_read : NotRead
 unfolding import look
-not-read f g events times a = rw (same_number f g a (length events) (length times), same-records f g a)
+not_read f g events times a = rw (same_number f g a (length events) (length times), same_records f g a)

@@ -1,15 +1,15 @@
 -- 02, Wish 7: "Export takes whole frames, refuses a list not of its form in docs/, answers 4 or 5 for the first wrong one, and refuses
 -- too little room." Assumes nothing.
 use Rattle.std.specs.Prelude.{ℕ, ◌+◌, ◌≤◌, ◌<◌, ◌≡◌, true, false, ◌⊎◌, List, [], ◌∷◌, ◌++◌, length}
-use Rattle.fcs.specs.CheckSequence.{checkRight}
-use Rattle.frame.specs.Length.{lengthAllowed}
+use Rattle.fcs.specs.CheckSequence.{check_right}
+use Rattle.frame.specs.Length.{length_allowed}
 use Rattle.pcap.specs.Capture.{Captured}
-use Rattle.pcap_list.specs.Entries.{entriesOf, ofItsForm}
-use Rattle.pcap_export.specs.Export.{exportNumber, export}
+use Rattle.pcap_list.specs.Entries.{entries_of, of_its_form}
+use Rattle.pcap_export.specs.Export.{export_number, export}
 
 -- a whole frame, with a right check sequence
 abbrev pub Right : List ℕ → Type 0
-Right frame = (lengthAllowed (length frame) ≡ true) × (checkRight frame ≡ true)
+Right frame = (length_allowed (length frame) ≡ true) × (check_right frame ≡ true)
 
 abbrev pub AllRight : List Captured → Type 0
 AllRight [] = Unit
@@ -18,8 +18,8 @@ AllRight (c ∷ cs) = Right c.frame × AllRight cs
 -- why a frame is wrong
 abbrev pub Wrong : List ℕ → ℕ → Type 0
 Wrong frame n =
-    ((lengthAllowed (length frame) ≡ false) × (n ≡ 4))
-    ⊎ ((lengthAllowed (length frame) ≡ true) × (checkRight frame ≡ false) × (n ≡ 5))
+    ((length_allowed (length frame) ≡ false) × (n ≡ 4))
+    ⊎ ((length_allowed (length frame) ≡ true) × (check_right frame ≡ false) × (n ≡ 5))
 
 -- the first one: all before it are right
 pub record FirstWrong (cs : List Captured) (n : ℕ) : Type 0 where
@@ -33,12 +33,12 @@ pub record FirstWrong (cs : List Captured) (n : ℕ) : Type 0 where
 -- the situation of each number, in which it is given and no other. A file has 24 bytes more than its list
 abbrev pub Says : List ℕ → ℕ → Type 0
 Says list room =
-    let n = exportNumber list room in
-    let cs = entriesOf list in
-    ((ofItsForm list ≡ false) × (n ≡ 29))
-    ⊎ (((ofItsForm list ≡ true) × FirstWrong cs n)
-    ⊎ (((ofItsForm list ≡ true) × AllRight cs × (room < 24 + length list) × (n ≡ 30))
-    ⊎ ((ofItsForm list ≡ true) × AllRight cs × (24 + length list ≤ room) × (n ≡ 0))))
+    let n = export_number list room in
+    let cs = entries_of list in
+    ((of_its_form list ≡ false) × (n ≡ 29))
+    ⊎ (((of_its_form list ≡ true) × FirstWrong cs n)
+    ⊎ (((of_its_form list ≡ true) × AllRight cs × (room < 24 + length list) × (n ≡ 30))
+    ⊎ ((of_its_form list ≡ true) × AllRight cs × (24 + length list ≤ room) × (n ≡ 0))))
 
 abbrev pub Exactly : Type 0
 Exactly = (list : List ℕ) (room : ℕ) → Says list room

@@ -3,15 +3,15 @@
 use Rattle.std.specs.Prelude.{ℕ, ◌+◌, ◌*◌, ◌≤◌, ◌<◌, ◌≡◌, true, false, ◌⊎◌, List, [], ◌∷◌, ◌++◌, length, take, drop}
 use Rattle.memory.specs.Memory.{word}
 use Rattle.pieces.specs.Pieces.{joined}
-use Rattle.pcap.specs.Capture.{Captured, magic, version, linkType}
-use Rattle.pcap_records.specs.Records.{cutRecord, unequalLengths, allStorable}
-use Rattle.pcap_import.specs.Import.{importedFrames, eventsOf, importNumber, import}
+use Rattle.pcap.specs.Capture.{Captured, magic, version, link_type}
+use Rattle.pcap_records.specs.Records.{cut_record, unequal_lengths, all_storable}
+use Rattle.pcap_import.specs.Import.{imported_frames, events_of, import_number, import}
 
 -- ---- when each number is given
 
 -- the header is the one that is asked for
 abbrev pub Header : List ℕ → Type 0
-Header file = (24 ≤ length file) × (word file 0 ≡ magic) × (word file 4 ≡ version) × (word file 20 ≡ linkType)
+Header file = (24 ≤ length file) × (word file 0 ≡ magic) × (word file 4 ≡ version) × (word file 20 ≡ link_type)
 
 -- a record that is not wrong: it has as many bytes as its captured length says behind the 16, and its lengths are equal
 abbrev pub Right : List ℕ → Type 0
@@ -28,7 +28,7 @@ pub record FirstWrong (s : List ℕ) (n : ℕ) : Type 0 where
   pub there : joined before ++ rest ≡ s
   pub right : AllRight before
   pub some : 0 < length rest
-  pub wrong : ((cutRecord rest ≡ true) × (n ≡ 35)) ⊎ ((cutRecord rest ≡ false) × (unequalLengths rest ≡ true) × (n ≡ 36))
+  pub wrong : ((cut_record rest ≡ true) × (n ≡ 35)) ⊎ ((cut_record rest ≡ false) × (unequal_lengths rest ≡ true) × (n ≡ 36))
 
 -- no record is wrong: right ones are all of the bytes
 pub record NoneWrong (s : List ℕ) : Type 0 where
@@ -39,23 +39,23 @@ pub record NoneWrong (s : List ℕ) : Type 0 where
 -- too little room: a frame whose length has no 32 bits, too few bytes for the events, or fewer than 8 for each time
 abbrev pub TooLittle : List Captured → ℕ → ℕ → Type 0
 TooLittle cs events times =
-    (allStorable cs ≡ false) ⊎ ((events < length (eventsOf cs)) ⊎ (times < 8 * length cs))
+    (all_storable cs ≡ false) ⊎ ((events < length (events_of cs)) ⊎ (times < 8 * length cs))
 
 abbrev pub Enough : List Captured → ℕ → ℕ → Type 0
-Enough cs events times = (allStorable cs ≡ true) × (length (eventsOf cs) ≤ events) × (8 * length cs ≤ times)
+Enough cs events times = (all_storable cs ≡ true) × (length (events_of cs) ≤ events) × (8 * length cs ≤ times)
 
 -- the situation of each number, in which it is given and no other
 abbrev pub Says : List ℕ → ℕ → ℕ → Type 0
 Says file events times =
-    let n = importNumber file events times in
+    let n = import_number file events times in
     let s = drop 24 file in
     ((length file < 24) × (n ≡ 31))
     ⊎ (((24 ≤ length file) × (word file 0 ≡ magic → ⊥) × (n ≡ 32))
     ⊎ (((24 ≤ length file) × (word file 0 ≡ magic) × (word file 4 ≡ version → ⊥) × (n ≡ 33))
-    ⊎ (((24 ≤ length file) × (word file 0 ≡ magic) × (word file 4 ≡ version) × (word file 20 ≡ linkType → ⊥) × (n ≡ 34))
+    ⊎ (((24 ≤ length file) × (word file 0 ≡ magic) × (word file 4 ≡ version) × (word file 20 ≡ link_type → ⊥) × (n ≡ 34))
     ⊎ ((Header file × FirstWrong s n)
-    ⊎ ((Header file × NoneWrong s × TooLittle (importedFrames file) events times × (n ≡ 37))
-    ⊎ (Header file × NoneWrong s × Enough (importedFrames file) events times × (n ≡ 0)))))))
+    ⊎ ((Header file × NoneWrong s × TooLittle (imported_frames file) events times × (n ≡ 37))
+    ⊎ (Header file × NoneWrong s × Enough (imported_frames file) events times × (n ≡ 0)))))))
 
 abbrev pub Exactly : Type 0
 Exactly = (file : List ℕ) (events times : ℕ) → Says file events times

@@ -1,12 +1,12 @@
 // The firmware's reads of the window, whatever is lent. Each writes its line.
 ghost use Rattle.std.specs.Prelude.{◌≡◌};
 ghost use Rattle.text.specs.Text.{written, put};
-ghost use Rattle.commands.specs.Commands.{peekSays, checkSays};
+ghost use Rattle.commands.specs.Commands.{peek_says, check_says};
 
 use enet::Enet;
 
 pub fn peek(device: Enet, address: u32, n: u32, memory: &[u8], text: &mut [u8], at: usize) -> usize
-    ensures { written result text.new ≡ put text.old at (peekSays device memory.now address n) }
+    ensures { written result text.new ≡ put text.old at (peek_says device memory.now address n) }
 {
     if !window::in_window(device.base, device.window, address, n) {
         return replies::said(text, at, b"peek outside");
@@ -16,7 +16,7 @@ pub fn peek(device: Enet, address: u32, n: u32, memory: &[u8], text: &mut [u8], 
 }
 
 pub fn check(device: Enet, memory: &[u8], text: &mut [u8], at: usize) -> usize
-    ensures { written result text.new ≡ put text.old at (checkSays device memory.now) }
+    ensures { written result text.new ≡ put text.old at (check_says device memory.now) }
 {
     let window = memory::part(memory, 0, device.window as usize);
     replies::valued(text, at, b"check", fcs::check_number(window))

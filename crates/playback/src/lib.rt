@@ -2,7 +2,7 @@
 // list of bytes, so no event is copied.
 ghost use Rattle.std.specs.Prelude.{◌≡◌, drop};
 ghost use Rattle.event.specs.Front.{front, found};
-ghost use Rattle.playback.specs.Playing.{benchOf, acting, actAs, played, playInto};
+ghost use Rattle.playback.specs.Playing.{bench_of, acting, act_as, played, play_into};
 ghost use Rattle.playback.specs.Turns.{turn};
 
 use enet::{Answered, Enet};
@@ -41,7 +41,7 @@ fn no_event(device: Enet) -> Acted
 
 // What was found in a list, as a call. What is no event changes nothing and has number 22.
 pub fn act(device: Enet, memory: &mut [u8], output: &mut [u8], list: &[u8], found: Found) -> Acted
-    ensures { acting result memory.new output.new ≡ actAs (benchOf device memory.old) output.old list.now found }
+    ensures { acting result memory.new output.new ≡ act_as (bench_of device memory.old) output.old list.now found }
 {
     match found {
         Found::RegisterWrite(offset, value) => sends_nothing(device.write(offset, value)),
@@ -89,7 +89,7 @@ pub fn play(
     list: &[u8],
     answers: &mut [u32],
 ) -> Enet
-    ensures { played result memory.new output.new answers.new ≡ playInto answers.old (benchOf device memory.old) output.old list.now }
+    ensures { played result memory.new output.new answers.new ≡ play_into answers.old (bench_of device memory.old) output.old list.now }
 {
     let mut last = device;
     let mut place = 0;

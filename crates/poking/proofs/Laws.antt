@@ -5,12 +5,12 @@ use mathlib.Core.Bool.{Bool, true, false, not}
 use mathlib.Core.List.{List}
 use lib.ListN.{length, take}
 use Rattle.rules.specs.Choice.{if◌then◌else◌}
-use Rattle.rules.proofs.Choices.{said-yes, said-no}
+use Rattle.rules.proofs.Choices.{said_yes, said_no}
 use Rattle.memory.specs.Memory.{store}
-use Rattle.window.specs.Window.{inWindow, offset}
+use Rattle.window.specs.Window.{in_window, offset}
 use Rattle.words.specs.Words.{characters}
 use Rattle.forms.specs.Pairs.{named, decoded, decode}
-use Rattle.forms.proofs.NamedLaws.{named-is}
+use Rattle.forms.proofs.NamedLaws.{named_is}
 use Rattle.text.specs.Text.{written, put}
 use Rattle.replies.specs.Replies.{either}
 use Rattle.commands.specs.declared.Console.{Console}
@@ -18,28 +18,28 @@ use Rattle.commands.specs.Answers.{given, tells}
 use Rattle.commands.specs.Commands.{poke}
 
 -- the window has all of the n bytes, or not
-module _ (base window address n : ℕ) (m : List ℕ) (inside : Bool) (e : inside ≡ inWindow base window address n) where
-  pub stored-outside : not inside ≡ true → (false ≡ inWindow base window address n) × (m ≡ m)
-  stored-outside i = (sym (said-no _ inside e i), refl)
+module _ (base window address n : ℕ) (m : List ℕ) (inside : Bool) (e : inside ≡ in_window base window address n) where
+  pub stored_outside : not inside ≡ true → (false ≡ in_window base window address n) × (m ≡ m)
+  stored_outside i = (sym (said_no _ inside e i), refl)
 
-  pub stored-inside : (m' s : List ℕ) (from : ℕ) → not inside ≡ false → from ≡ offset base address → m' ≡ store m from s
-      → (true ≡ inWindow base window address n) × (m' ≡ store m (offset base address) s)
-  stored-inside m' s from i o k = (sym (said-yes _ inside e i), rw o at k)
+  pub stored_inside : (m' s : List ℕ) (from : ℕ) → not inside ≡ false → from ≡ offset base address → m' ≡ store m from s
+      → (true ≡ in_window base window address n) × (m' ≡ store m (offset base address) s)
+  stored_inside m' s from i o k = (sym (said_yes _ inside e i), rw o at k)
 
 -- what is stored and said
 module _ (c : Console) (m m' t t' : List ℕ) (at end address : ℕ) where
-  poke-said : (s : List ℕ) (inside : Bool) → inside ≡ inWindow c.device.base c.device.window address (length s)
+  poke_said : (s : List ℕ) (inside : Bool) → inside ≡ in_window c.device.base c.device.window address (length s)
       → m' ≡ (if inside then store m (offset c.device.base address) s else m)
       → written end t' ≡ put t at (either inside (characters "poke ok") (characters "poke outside"))
       → given (record { console = c; end = end }) m' t' ≡ tells (poke c m address s) t at
   unfolding poke
-  poke-said s true e k h = rw (← e) (λ j. record { console = c; memory = k j; text = h j })
-  poke-said s false e k h = rw (← e) (λ j. record { console = c; memory = k j; text = h j })
+  poke_said s true e k h = rw (← e) (λ j. record { console = c; memory = k j; text = h j })
+  poke_said s false e k h = rw (← e) (λ j. record { console = c; memory = k j; text = h j })
 
-  pub poke-is : (word out out' s : List ℕ) (n : ℕ) (inside : Bool) → 2048 ≡ length out → decoded n out' ≡ decode word out → s ≡ take n out'
-      → inside ≡ inWindow c.device.base c.device.window address (length s)
+  pub poke_is : (word out out' s : List ℕ) (n : ℕ) (inside : Bool) → 2048 ≡ length out → decoded n out' ≡ decode word out → s ≡ take n out'
+      → inside ≡ in_window c.device.base c.device.window address (length s)
       → m' ≡ (if inside then store m (offset c.device.base address) s else m)
       → written end t' ≡ put t at (either inside (characters "poke ok") (characters "poke outside"))
       → given (record { console = c; end = end }) m' t' ≡ tells (poke c m address (named word)) t at
-  poke-is word out out' s n inside l e p i k h =
-      poke-said s inside i k h ∙ ap (λ (s : List ℕ). tells (poke c m address s) t at) (p ∙ named-is word out out' n l e)
+  poke_is word out out' s n inside l e p i k h =
+      poke_said s inside i k h ∙ ap (λ (s : List ℕ). tells (poke c m address s) t at) (p ∙ named_is word out out' n l e)

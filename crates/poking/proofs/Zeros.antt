@@ -8,11 +8,11 @@ use lib.ListN.{length, drop, set, replicate, drop_of_length-le}
 use Rattle.commands.specs.Commands.{zeros}
 
 module _ (all m : List ℕ) (i : ℕ) (so_far : m ≡ replicate i 0 ++ drop i all) where
-  pub zeros-more : i < length all → set m i 0 ≡ replicate (i + 1) 0 ++ drop (i + 1) all
-  zeros-more h = rw so_far (fill_more i 0 all h)
+  pub zeros_more : i < length all → set m i 0 ≡ replicate (i + 1) 0 ++ drop (i + 1) all
+  zeros_more h = rw so_far (fill_more i 0 all h)
 
-  pub zeros-end : i ≤ length all → length all ≤ i → m ≡ zeros (length all)
+  pub zeros_end : i ≤ length all → length all ≤ i → m ≡ zeros (length all)
   unfolding zeros
-  zeros-end h l =
+  zeros_end h l =
       let e : i ≡ length all = omega arith in
       so_far ∙ rw (drop_of_length-le all {i = i} l, append-nil, e)

@@ -2,7 +2,7 @@
 ghost use Rattle.std.specs.Prelude.{◌≡◌, length, ◌≤◌};
 ghost use Rattle.rules.specs.Choice.{if◌then◌else◌};
 ghost use Rattle.memory.specs.Memory.{store};
-ghost use Rattle.window.specs.Window.{inWindow, offset};
+ghost use Rattle.window.specs.Window.{in_window, offset};
 ghost use Rattle.forms.specs.Pairs.{named};
 ghost use Rattle.commands.specs.Answers.{given, tells};
 ghost use Rattle.commands.specs.Commands.{zeros, poke};
@@ -32,7 +32,7 @@ fn blank() -> [u8; 2048]
 // Stores bytes where the window has all of them, and answers whether it has.
 fn stored(device: Enet, address: u32, s: &[u8], memory: &mut [u8]) -> bool
     requires { length s.now ≤ 2048 }
-    ensures { (result ≡ inWindow device.base device.window address (length s.now)) × (memory.new ≡ (if result then store memory.old (offset device.base address) s.now else memory.old)) }
+    ensures { (result ≡ in_window device.base device.window address (length s.now)) × (memory.new ≡ (if result then store memory.old (offset device.base address) s.now else memory.old)) }
 {
     if !window::in_window(device.base, device.window, address, s.len() as u32) {
         return false;

@@ -2,7 +2,7 @@
 -- stops that engine; with it, it looks again." What a call that answers 8 leaves of its engine. Assumes nothing.
 use Rattle.std.specs.Prelude.{ℕ, ◌≡◌, List}
 use Rattle.engine.specs.declared.Engine.{Engine}
-use Rattle.calls.specs.Calls.{Bench, receiveCall, sendCall, stepRun, call}
+use Rattle.calls.specs.Calls.{Bench, receive_call, send_call, step_run, call}
 
 abbrev pub receiver : Bench → Engine
 receiver b = b.device.registers.rx
@@ -19,10 +19,10 @@ pub record NotGrantedLeaves (before after : Engine) : Type 0 where
   pub polling : after.polling ≡ before.polling
 
 pub record AfterEight : Type 0 where
-  pub receive : (b : Bench) (frame : List ℕ) → (call b (receiveCall frame)).number ≡ 8
-      → NotGrantedLeaves (receiver b) (receiver (call b (receiveCall frame)).bench)
-  pub send : (b : Bench) (output : List ℕ) → (call b (sendCall output)).number ≡ 8
-      → NotGrantedLeaves (sender b) (sender (call b (sendCall output)).bench)
+  pub receive : (b : Bench) (frame : List ℕ) → (call b (receive_call frame)).number ≡ 8
+      → NotGrantedLeaves (receiver b) (receiver (call b (receive_call frame)).bench)
+  pub send : (b : Bench) (output : List ℕ) → (call b (send_call output)).number ≡ 8
+      → NotGrantedLeaves (sender b) (sender (call b (send_call output)).bench)
   -- a step run that ends with 8: sending runs on exactly if polling is enabled for the place that the run has come to
-  pub run : (b : Bench) (output : List ℕ) (allowance : ℕ) → (call b (stepRun output allowance)).number ≡ 8
-      → (sender (call b (stepRun output allowance)).bench).running ≡ (sender (call b (stepRun output allowance)).bench).polling
+  pub run : (b : Bench) (output : List ℕ) (allowance : ℕ) → (call b (step_run output allowance)).number ≡ 8
+      → (sender (call b (step_run output allowance)).bench).running ≡ (sender (call b (step_run output allowance)).bench).polling

@@ -11,27 +11,27 @@ use lib.ListN.{length, get_or, take, drop, length-take, length-drop}
 use lib.Seq.{get_or-take}
 use borrow.Author.Tests.{eq-eqb, ne_eqb, eqb-true, eqb-false, lt-ltb, le-ltb, ltb-true, ltb-false}
 use Rattle.memory.specs.Memory.{word}
-use Rattle.memory.proofs.Parts.{drop-take}
+use Rattle.memory.proofs.Parts.{drop_take}
 use Rattle.event.specs.Front.{front}
-use Rattle.event.specs.Sizes.{size_of, begins, within, sizeBy}
-use Rattle.event.specs.Walk.{walks, walk, counted, endingBy}
+use Rattle.event.specs.Sizes.{size_of, begins, within, size_by}
+use Rattle.event.specs.Walk.{walks, walk, counted, ending_by}
 use Rattle.event.specs.declared.Walked.{Walked}
 use Rattle.event.specs.declared.Ending.{Ending}
 use Rattle.event.specs.declared.Ending.TheVariants.{Whole, Cut, NoEvent}
 use Rattle.rules.proofs.Choices.{by_bool}
-use Rattle.event.proofs.Fronts.{size_is, size_fits, begins-yes}
+use Rattle.event.proofs.Fronts.{size_is, size_fits, begins_yes}
 use Rattle.event.proofs.Laws.{turn, stop}
 
 -- ---- the size of an event, by how many bytes it wants
 
 -- a first byte that no event has, or one that wants so many bytes: the same number whatever the four bytes behind it are, or
 -- five and more
-by-want : {C : Type 0} (first : ℕ) → (((four left : ℕ) → sizeBy first four left ≡ 0) → C)
-    → ((k : ℕ → ℕ) → ((four left : ℕ) → sizeBy first four left ≡ within left (k four)) → ((four : ℕ) → 0 < k four)
+by_want : {C : Type 0} (first : ℕ) → (((four left : ℕ) → size_by first four left ≡ 0) → C)
+    → ((k : ℕ → ℕ) → ((four left : ℕ) → size_by first four left ≡ within left (k four)) → ((four : ℕ) → 0 < k four)
     → ((a b : ℕ) → (k a ≡ k b) ⊎ ((5 ≤ k a) × (5 ≤ k b))) → begins first ≡ true → C)
     → C
-unfolding sizeBy
-by-want first none some =
+unfolding size_by
+by_want first none some =
     by_bool (eqb first 1)
     (λ t.
     some (λ four. 9) (λ four left. by_bool (eqb left 0) (λ u. let e = eqb-true left 0 u in rw (t, e)) (λ u. rw (t, u))) (λ four. omega arith)
@@ -67,10 +67,10 @@ by-want first none some =
     (λ y. none (λ four left. by_bool (eqb left 0) (λ u. rw u) (λ u. rw (t, v, w, y, u)))))))
   where
     known : (k : ℕ) → eqb first k ≡ true → 0 < k → k ≤ 4 → begins first ≡ true
-    known k t a b = let e = eqb-true first k t in begins-yes first (omega arith) (omega arith)
+    known k t a b = let e = eqb-true first k t in begins_yes first (omega arith) (omega arith)
 
-within-some : (left n m : ℕ) → m ≡ within left n → (m ≡ 0 → ⊥) → m ≡ n
-within-some left n m e h = by_bool (ltb left n) (λ t. absurd (h (rw t at e))) (λ t. rw t at e)
+within_some : (left n m : ℕ) → m ≡ within left n → (m ≡ 0 → ⊥) → m ≡ n
+within_some left n m e h = by_bool (ltb left n) (λ t. absurd (h (rw t at e))) (λ t. rw t at e)
 
 within_none : (left n m : ℕ) → m ≡ within left n → m ≡ 0 → 0 < n → left < n
 within_none left n m e z p =
@@ -81,28 +81,28 @@ within_none left n m e z p =
 
 module _ (first a b left less : ℕ) (fewer : less ≤ left) (alike : 5 ≤ less → a ≡ b) where
   -- a whole event of which all bytes are kept
-  pub size-kept : (n : ℕ) → n ≡ sizeBy first a left → (n ≡ 0 → ⊥) → n ≤ less → sizeBy first b less ≡ n
-  size-kept n e h l =
-      by-want first (λ z. absurd (h (e ∙ z a left)))
+  pub size_kept : (n : ℕ) → n ≡ size_by first a left → (n ≡ 0 → ⊥) → n ≤ less → size_by first b less ≡ n
+  size_kept n e h l =
+      by_want first (λ z. absurd (h (e ∙ z a left)))
       (λ k is pos same b₀.
-      let q : n ≡ k a = within-some left (k a) n (e ∙ is a left) h in
+      let q : n ≡ k a = within_some left (k a) n (e ∙ is a left) h in
       let r : k b ≡ k a = ⊎_elim (λ (s : k a ≡ k b). sym s) (λ (s : (5 ≤ k a) × (5 ≤ k b)). let u = s.0 in ap k (sym (alike (omega arith)))) (same a b) in
       is b less ∙ rw (le-ltb less (k b) (omega arith)) (r ∙ sym q))
 
   -- one of which bytes are missing
-  pub size-lost : (n : ℕ) → n ≡ sizeBy first a left → (n ≡ 0) ⊎ (less < n) → sizeBy first b less ≡ 0
-  size-lost n e h =
-      by-want first (λ z. z b less)
+  pub size_lost : (n : ℕ) → n ≡ size_by first a left → (n ≡ 0) ⊎ (less < n) → size_by first b less ≡ 0
+  size_lost n e h =
+      by_want first (λ z. z b less)
       (λ k is pos same b₀.
-      let more : less < k a = ⊎_elim (λ (z : n ≡ 0). let w = within_none left (k a) n (e ∙ is a left) z (pos a) in omega arith) (λ (z : less < n). let w = within-some left (k a) n (e ∙ is a left) (λ q. omega arith) in omega arith) h in
-      let there : less < k b = ⊎_elim (λ (s : k a ≡ k b). omega arith) (λ (s : (5 ≤ k a) × (5 ≤ k b)). let u = s.1 in by-five (ltb less 5) k u more refl) (same a b) in
+      let more : less < k a = ⊎_elim (λ (z : n ≡ 0). let w = within_none left (k a) n (e ∙ is a left) z (pos a) in omega arith) (λ (z : less < n). let w = within_some left (k a) n (e ∙ is a left) (λ q. omega arith) in omega arith) h in
+      let there : less < k b = ⊎_elim (λ (s : k a ≡ k b). omega arith) (λ (s : (5 ≤ k a) × (5 ≤ k b)). let u = s.1 in by_five (ltb less 5) k u more refl) (same a b) in
       is b less ∙ rw (lt-ltb less (k b) there))
     where
-      by-five : (t : Bool) (k : ℕ → ℕ) → 5 ≤ k b → less < k a → ltb less 5 ≡ t → less < k b
-      by-five true k u m e =
+      by_five : (t : Bool) (k : ℕ → ℕ) → 5 ≤ k b → less < k a → ltb less 5 ≡ t → less < k b
+      by_five true k u m e =
           let l = ltb-true less 5 e in
           omega arith
-      by-five false k u m e = subst (λ x. less < k x) (alike (ltb-false less 5 e)) m
+      by_five false k u m e = subst (λ x. less < k x) (alike (ltb-false less 5 e)) m
 
 -- ---- the size of what stands at the front of a string that is cut short
 
@@ -110,12 +110,12 @@ module _ (s : List ℕ) (m : ℕ) (some : 0 < m) (n : ℕ) (e : n ≡ size_of (f
   short : length (take m s) ≤ length s
   short = rw (length-take m s) (omega arith)
 
-  first-kept : get_or (take m s) 0 0 ≡ get_or s 0 0
-  first-kept = get_or-take m s 0 0 some
+  first_kept : get_or (take m s) 0 0 ≡ get_or s 0 0
+  first_kept = get_or-take m s 0 0 some
 
-  four-kept : 5 ≤ length (take m s) → word s 1 ≡ word (take m s) 1
+  four_kept : 5 ≤ length (take m s) → word s 1 ≡ word (take m s) 1
   unfolding word
-  four-kept h =
+  four_kept h =
       let l : 5 ≤ m = omega (arith, rw (length-take m s) at h) in
       rw (get_or-take m s 1 0 (omega arith), get_or-take m s 2 0 (omega arith), get_or-take m s 3 0 (omega arith), get_or-take m s 4 0 (omega arith))
 
@@ -123,13 +123,13 @@ module _ (s : List ℕ) (m : ℕ) (some : 0 < m) (n : ℕ) (e : n ≡ size_of (f
   kept h l =
       let fits = size_fits s in
       let f : n ≤ length (take m s) = rw (length-take m s) (omega arith) in
-      sym (size_is (take m s)) ∙ rw first-kept (size-kept (get_or s 0 0) (word s 1) (word (take m s) 1) (length s) (length (take m s)) short four-kept n (e ∙ sym (size_is s)) h f)
+      sym (size_is (take m s)) ∙ rw first_kept (size_kept (get_or s 0 0) (word s 1) (word (take m s) 1) (length s) (length (take m s)) short four_kept n (e ∙ sym (size_is s)) h f)
 
   pub lost : (n ≡ 0) ⊎ (m < n) → size_of (front (take m s)) ≡ 0
   lost h =
       let f : length (take m s) ≤ m = rw (length-take m s) (omega arith) in
       let g : (n ≡ 0) ⊎ (length (take m s) < n) = ⊎_elim (λ z. inl z) (λ (z : m < n). inr (omega arith)) h in
-      sym (size_is (take m s)) ∙ rw first-kept (size-lost (get_or s 0 0) (word s 1) (word (take m s) 1) (length s) (length (take m s)) short four-kept n (e ∙ sym (size_is s)) g)
+      sym (size_is (take m s)) ∙ rw first_kept (size_lost (get_or s 0 0) (word s 1) (word (take m s) 1) (length s) (length (take m s)) short four_kept n (e ∙ sym (size_is s)) g)
 
 -- ---- the walk along a string that is cut short
 
@@ -140,20 +140,20 @@ stray Cut = false
 stray NoEvent = true
 
 -- of no bytes nothing is stray
-none-stray : (g : ℕ) (s : List ℕ) → length s ≡ 0 → stray (counted (walks g s)).ending ≡ false
-unfolding endingBy
-none-stray g s e =
+none_stray : (g : ℕ) (s : List ℕ) → length s ≡ 0 → stray (counted (walks g s)).ending ≡ false
+unfolding ending_by
+none_stray g s e =
     let z : size_of (front s) ≡ 0 = let f = size_fits s in omega arith in
     ap (λ (w : Walked). stray w.ending) (stop g s (omega arith) z) ∙ rw (eq-eqb (length s) 0 e)
 
 -- a whole event has a first byte that events can have
-size-begins : (s : List ℕ) → (size_of (front s) ≡ 0 → ⊥) → begins (get_or s 0 0) ≡ true
-size-begins s h = by-want (get_or s 0 0) (λ z. absurd (h (sym (size_is s) ∙ z (word s 1) (length s)))) (λ k is pos same b. b)
+size_begins : (s : List ℕ) → (size_of (front s) ≡ 0 → ⊥) → begins (get_or s 0 0) ≡ true
+size_begins s h = by_want (get_or s 0 0) (λ z. absurd (h (sym (size_is s) ∙ z (word s 1) (length s)))) (λ k is pos same b. b)
 
 -- what stands at the front is no whole event: it is stray by its first byte
-stray-part : (g : ℕ) (s : List ℕ) → length s ≤ g → 0 < length s → size_of (front s) ≡ 0 → stray (counted (walks g s)).ending ≡ not (begins (get_or s 0 0))
-unfolding endingBy
-stray-part g s l p z =
+stray_part : (g : ℕ) (s : List ℕ) → length s ≤ g → 0 < length s → size_of (front s) ≡ 0 → stray (counted (walks g s)).ending ≡ not (begins (get_or s 0 0))
+unfolding ending_by
+stray_part g s l p z =
     ap (λ (w : Walked). stray w.ending) (stop g s l z)
     ∙ rw (ne_eqb (length s) 0 (λ q. omega arith)) (by_bool (begins (get_or s 0 0)) (λ t. rw t) (λ t. rw t))
 
@@ -167,11 +167,11 @@ and_yes false = refl
 
 -- a walk's ending and place behind an event of n bytes
 module _ (f n : ℕ) (s : List ℕ) (e : n ≡ size_of (front s)) (h : n ≡ 0 → ⊥) where
-  ending-behind : (counted (walks (suc f) s)).ending ≡ (counted (walks f (drop n s))).ending
-  ending-behind = ap (λ (w : Walked). w.ending) (turn s f 0 0 n e h)
+  ending_behind : (counted (walks (suc f) s)).ending ≡ (counted (walks f (drop n s))).ending
+  ending_behind = ap (λ (w : Walked). w.ending) (turn s f 0 0 n e h)
 
-  place-behind : (counted (walks (suc f) s)).place ≡ n + (counted (walks f (drop n s))).place
-  place-behind = let p = ap (λ (w : Walked). w.place) (turn s f 0 0 n e h) in omega arith
+  place_behind : (counted (walks (suc f) s)).place ≡ n + (counted (walks f (drop n s))).place
+  place_behind = let p = ap (λ (w : Walked). w.place) (turn s f 0 0 n e h) in omega arith
 
 abbrev Prefix : ℕ → ℕ → List ℕ → ℕ → Type 0
 Prefix f g s m = stray (counted (walks g (take m s))).ending ≡ (stray (counted (walks f s)).ending && ltb (counted (walks f s)).place m)
@@ -179,39 +179,39 @@ Prefix f g s m = stray (counted (walks g (take m s))).ending ≡ (stray (counted
 empty : (f g : ℕ) (s : List ℕ) (m : ℕ) → length s ≡ 0 → Prefix f g s m
 empty f g s m e =
     let z : length (take m s) ≡ 0 = length-take m s ∙ omega arith in
-    none-stray g (take m s) z ∙ rw (none-stray f s e)
+    none_stray g (take m s) z ∙ rw (none_stray f s e)
 
 module _ (f g : ℕ) (s : List ℕ) (m : ℕ) (l : length s ≤ suc f) (k : length (take m s) ≤ suc g) (p : 0 < length s) (q : 0 < m) where
   some_left : 0 < length (take m s)
   some_left = rw (length-take m s) (omega arith)
 
   -- no whole event at the front
-  no-event : size_of (front s) ≡ 0 → Prefix (suc f) (suc g) s m
-  no-event z =
+  no_event_lem : size_of (front s) ≡ 0 → Prefix (suc f) (suc g) s m
+  no_event_lem z =
       let at : (counted (walks (suc f) s)).place ≡ 0 = ap (λ (w : Walked). w.place) (stop (suc f) s l z) in
-      stray-part (suc g) (take m s) k some_left (lost s m q 0 (sym z) (inl refl))
-      ∙ rw (first-kept s m q 0 (sym z), stray-part (suc f) s l p z, at, lt-ltb 0 m q) (and_yes (not (begins (get_or s 0 0))))
+      stray_part (suc g) (take m s) k some_left (lost s m q 0 (sym z) (inl refl))
+      ∙ rw (first_kept s m q 0 (sym z), stray_part (suc f) s l p z, at, lt-ltb 0 m q) (and_yes (not (begins (get_or s 0 0))))
 
   module _ (n : ℕ) (e : n ≡ size_of (front s)) (h : n ≡ 0 → ⊥) where
     -- one of which bytes are missing
-    event-lost : m < n → Prefix (suc f) (suc g) s m
-    event-lost d =
-        let b = size-begins s (λ z. h (e ∙ z)) in
-        let far : m ≤ (counted (walks (suc f) s)).place = let w = place-behind f n s e h in omega arith in
-        stray-part (suc g) (take m s) k some_left (lost s m q n e (inr d))
-        ∙ rw (first-kept s m q n e, b, le-ltb (counted (walks (suc f) s)).place m far) (and_no (stray (counted (walks (suc f) s)).ending))
+    event_lost : m < n → Prefix (suc f) (suc g) s m
+    event_lost d =
+        let b = size_begins s (λ z. h (e ∙ z)) in
+        let far : m ≤ (counted (walks (suc f) s)).place = let w = place_behind f n s e h in omega arith in
+        stray_part (suc g) (take m s) k some_left (lost s m q n e (inr d))
+        ∙ rw (first_kept s m q n e, b, le-ltb (counted (walks (suc f) s)).place m far) (and_no (stray (counted (walks (suc f) s)).ending))
 
     -- one that is kept: the rest decides
-    event-kept : n ≤ m → Prefix f g (drop n s) (m - n) → Prefix (suc f) (suc g) s m
-    event-kept d i =
+    event_kept : n ≤ m → Prefix f g (drop n s) (m - n) → Prefix (suc f) (suc g) s m
+    event_kept d i =
         let w = kept s m q n e h d in
-        let at = place-behind f n s e h in
+        let at = place_behind f n s e h in
         let same : ltb (counted (walks (suc f) s)).place m ≡ ltb (counted (walks f (drop n s))).place (m - n) = by_place (counted (walks f (drop n s))).place at in
         let j : stray (counted (walks g (drop n (take m s)))).ending
-        ≡ (stray (counted (walks f (drop n s))).ending && ltb (counted (walks f (drop n s))).place (m - n)) = rw (drop-take n m s) i in
+        ≡ (stray (counted (walks f (drop n s))).ending && ltb (counted (walks f (drop n s))).place (m - n)) = rw (drop_take n m s) i in
         let r : (stray (counted (walks (suc f) s)).ending && ltb (counted (walks (suc f) s)).place m)
-        ≡ (stray (counted (walks f (drop n s))).ending && ltb (counted (walks f (drop n s))).place (m - n)) = rw (ending-behind f n s e h, same) in
-        ap stray (ending-behind g n (take m s) (sym w) h) ∙ j ∙ sym r
+        ≡ (stray (counted (walks f (drop n s))).ending && ltb (counted (walks f (drop n s))).place (m - n)) = rw (ending_behind f n s e h, same) in
+        ap stray (ending_behind g n (take m s) (sym w) h) ∙ j ∙ sym r
       where
         by_place : (x : ℕ) → (counted (walks (suc f) s)).place ≡ n + x → ltb (counted (walks (suc f) s)).place m ≡ ltb x (m - n)
         by_place x at =
@@ -222,23 +222,23 @@ module _ (f g : ℕ) (s : List ℕ) (m : ℕ) (l : length s ≤ suc f) (k : leng
 step : (f : ℕ) → ((g : ℕ) (s : List ℕ) (m : ℕ) → length s ≤ f → length (take m s) ≤ g → Prefix f g s m) → (g : ℕ) (s : List ℕ) (m : ℕ)
     → length s ≤ suc f → length (take m s) ≤ g → Prefix (suc f) g s m
 step f before g s zero l k =
-    none-stray g [] refl ∙ rw (le-ltb (counted (walks (suc f) s)).place 0 (omega arith)) (and_no (stray (counted (walks (suc f) s)).ending))
+    none_stray g [] refl ∙ rw (le-ltb (counted (walks (suc f) s)).place 0 (omega arith)) (and_no (stray (counted (walks (suc f) s)).ending))
 step f before zero s (suc m) l k = empty (suc f) zero s (suc m) (omega (arith, rw (length-take (suc m) s) at k))
 step f before (suc g) s (suc m) l k =
     by_bool (eqb (length s) 0) (λ t. empty (suc f) (suc g) s (suc m) (eqb-true (length s) 0 t))
     (λ t.
     let some = eqb-false (length s) 0 t in
-    by_bool (eqb (size_of (front s)) 0) (λ u. no-event f g s (suc m) l k (omega arith) (omega arith) (eqb-true (size_of (front s)) 0 u))
+    by_bool (eqb (size_of (front s)) 0) (λ u. no_event_lem f g s (suc m) l k (omega arith) (omega arith) (eqb-true (size_of (front s)) 0 u))
     (λ u.
     let h = eqb-false (size_of (front s)) 0 u in
     by_bool (ltb (suc m) (size_of (front s)))
-    (λ v. event-lost f g s (suc m) l k (omega arith) (omega arith) (size_of (front s)) refl h (ltb-true (suc m) (size_of (front s)) v))
+    (λ v. event_lost f g s (suc m) l k (omega arith) (omega arith) (size_of (front s)) refl h (ltb-true (suc m) (size_of (front s)) v))
     (λ v.
     let d = ltb-false (suc m) (size_of (front s)) v in
     let a = length-drop (size_of (front s)) s in
     let b = length-take (suc m) s in
     let c = length-take (suc m - size_of (front s)) (drop (size_of (front s)) s) in
-    event-kept f g s (suc m) l k (omega arith) (omega arith) (size_of (front s)) refl h d
+    event_kept f g s (suc m) l k (omega arith) (omega arith) (size_of (front s)) refl h d
     (before g (drop (size_of (front s)) s) (suc m - size_of (front s)) (omega arith) (omega arith)))))
 
 pub prefix : (f g : ℕ) (s : List ℕ) (m : ℕ) → length s ≤ f → length (take m s) ≤ g → Prefix f g s m

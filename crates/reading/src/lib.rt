@@ -1,6 +1,6 @@
 // Reading a delivered frame: its number by one call, and the part of the lent window that holds it by another.
 ghost use Rattle.std.specs.Prelude.{◌≡◌};
-ghost use Rattle.reading.specs.Reading.{shown, readingNumber, reading};
+ghost use Rattle.reading.specs.Reading.{shown, reading_number, reading};
 
 // The descriptor shows a frame.
 fn shown(base: u32, window: u32, m: &[u8], d: u32) -> bool
@@ -27,7 +27,7 @@ fn shown(base: u32, window: u32, m: &[u8], d: u32) -> bool
 
 // The refusals, 11 and 13, or 0.
 pub fn reading_number(base: u32, window: u32, m: &[u8], d: u32) -> u32
-    ensures { result ≡ readingNumber base window m.now d }
+    ensures { result ≡ reading_number base window m.now d }
 {
     if !window::lent(window, m) {
         return answer::LENT_LENGTH;

@@ -5,12 +5,12 @@ use Rattle.reason.specs.declared.Reason.TheVariants.{NotTaken, Own, Broadcast, G
 
 -- "The address rule should answer own, broadcast, group or receive-all, .. and not only yes." "The C function reports it as 1 to 4 in the order
 -- named, 0 for not taken."
-abbrev pub reasonNumber : Reason → ℕ
-reasonNumber NotTaken = 0
-reasonNumber Own = 1
-reasonNumber Broadcast = 2
-reasonNumber Group = 3
-reasonNumber ReceiveAll = 4
+abbrev pub reason_number : Reason → ℕ
+reason_number NotTaken = 0
+reason_number Own = 1
+reason_number Broadcast = 2
+reason_number Group = 3
+reason_number ReceiveAll = 4
 
 -- what document 01 calls to accept: any reason, "0 for not taken"
 abbrev pub taken : ℕ → Bool

@@ -1,8 +1,8 @@
 // Why a frame was taken: the answers of the address rule, their numbers, and the packet status word of
 // a delivered frame, which has the reason in it.
 ghost use Rattle.std.specs.Prelude.{◌≡◌};
-ghost use Rattle.reason.specs.Reason.{reasonNumber};
-ghost use Rattle.reason.specs.Status.{reasonBits, deliveredStatus};
+ghost use Rattle.reason.specs.Reason.{reason_number};
+ghost use Rattle.reason.specs.Status.{reason_bits, delivered_status};
 
 // What the address rule answers.
 #[derive(Drop)]
@@ -24,7 +24,7 @@ impl Reason {
 
 // Its number: own, broadcast, group and receive-all 1 to 4, and 0 for not taken.
 pub fn number(reason: Reason) -> u32
-    ensures { result ≡ reasonNumber reason }
+    ensures { result ≡ reason_number reason }
 {
     match reason {
         Reason::NotTaken => 0,
@@ -37,7 +37,7 @@ pub fn number(reason: Reason) -> u32
 
 // The bit of a packet status word that says the reason, or 0 where none does.
 fn bits(reason: Reason) -> u32
-    ensures { result ≡ reasonBits (reasonNumber reason) }
+    ensures { result ≡ reason_bits (reason_number reason) }
 {
     match reason {
         Reason::NotTaken => 0,
@@ -50,7 +50,7 @@ fn bits(reason: Reason) -> u32
 
 // The packet status word of a delivered frame: its length, and the bit of its reason.
 pub fn status(reason: Reason, length: u16) -> u32
-    ensures { result ≡ deliveredStatus (reasonNumber reason) length }
+    ensures { result ≡ delivered_status (reason_number reason) length }
 {
     bits(reason) + length as u32
 }

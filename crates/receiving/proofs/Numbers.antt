@@ -6,52 +6,52 @@ use Prim.Native.Nat.{ℕ, ◌≤◌}
 use native.Mathlib.Omega.{arith}
 use borrow.Author.Tests.{eqb-true}
 use lib.ListN.{length}
-use Rattle.rules.proofs.Choices.{by-test, by_number, said-yes, said-no, refused-by, passed-by}
+use Rattle.rules.proofs.Choices.{by_test, by_number, said_yes, said_no, refused_by, passed_by}
 use Rattle.window.specs.Window.{lent}
-use Rattle.frame.specs.Frame.{frameNumberBy}
-use Rattle.frame.proofs.Passed.{passed-short}
-use Rattle.chain.specs.Chain.{chainNumber}
+use Rattle.frame.specs.Frame.{frame_number_by}
+use Rattle.frame.proofs.Passed.{passed_short}
+use Rattle.chain.specs.Chain.{chain_number}
 use Rattle.chain.proofs.Laws.{by_chain}
-use Rattle.receiving.specs.Receiving.{receiveNumber}
+use Rattle.receiving.specs.Receiving.{receive_number}
 
 module _ (base window : ℕ) (running : Bool) (place first : ℕ) (m : List ℕ) (n : ℕ) where
-  pub not-lent-11 : lent window m ≡ false → 11 ≡ receiveNumber base window running place first m n
-  unfolding receiveNumber
-  not-lent-11 l = rw l
+  pub not_lent_11 : lent window m ≡ false → 11 ≡ receive_number base window running place first m n
+  unfolding receive_number
+  not_lent_11 l = rw l
 
-  pub stopped-3 : lent window m ≡ true → not running ≡ true → 3 ≡ receiveNumber base window running place first m n
-  unfolding receiveNumber
-  stopped-3 l r = rw (l, r)
+  pub stopped_3 : lent window m ≡ true → not running ≡ true → 3 ≡ receive_number base window running place first m n
+  unfolding receive_number
+  stopped_3 l r = rw (l, r)
 
-  pub frame-first : lent window m ≡ true → not running ≡ false → (k : ℕ) → k ≡ first → (k ≡ 0 → ⊥)
-      → k ≡ receiveNumber base window running place first m n
-  unfolding receiveNumber
-  frame-first l r k e h = rw (l, r) (refused-by first _ k e h)
+  pub frame_first : lent window m ≡ true → not running ≡ false → (k : ℕ) → k ≡ first → (k ≡ 0 → ⊥)
+      → k ≡ receive_number base window running place first m n
+  unfolding receive_number
+  frame_first l r k e h = rw (l, r) (refused_by first _ k e h)
 
-  pub chain-last : lent window m ≡ true → not running ≡ false → (k : ℕ) → k ≡ first → k ≡ 0
-      → (r : ℕ) → r ≡ chainNumber base window m place n → r ≡ receiveNumber base window running place first m n
-  unfolding receiveNumber
-  chain-last l r k e z x h = rw (l, r) (passed-by first _ k x e z h)
+  pub chain_last : lent window m ≡ true → not running ≡ false → (k : ℕ) → k ≡ first → k ≡ 0
+      → (r : ℕ) → r ≡ chain_number base window m place n → r ≡ receive_number base window running place first m n
+  unfolding receive_number
+  chain_last l r k e z x h = rw (l, r) (passed_by first _ k x e z h)
 
-pub ruleset ways = (not-lent-11, stopped-3, frame-first, chain-last, said-yes, said-no)
+pub ruleset ways = (not_lent_11, stopped_3, frame_first, chain_last, said_yes, said_no)
 
 -- a property of the number, by its values
-pub by-receive-number : (P : ℕ → Type 0) (base window : ℕ) (running : Bool) (place first : ℕ) (m : List ℕ) (n : ℕ)
-    → P 11 → P 3 → P first → P 7 → P 8 → P 0 → P (receiveNumber base window running place first m n)
-unfolding receiveNumber
-by-receive-number P base window running place first m n r11 r3 rf r7 r8 r0 =
-    by-test P (not (lent window m)) _ _ (λ _. r11) (λ _.
-    by-test P (not running) _ _ (λ _. r3) (λ _.
-    by_number P first (chainNumber base window m place n) (λ _. rf) (λ _. by_chain P base window m place n r7 r8 r0)))
+pub by_receive_number : (P : ℕ → Type 0) (base window : ℕ) (running : Bool) (place first : ℕ) (m : List ℕ) (n : ℕ)
+    → P 11 → P 3 → P first → P 7 → P 8 → P 0 → P (receive_number base window running place first m n)
+unfolding receive_number
+by_receive_number P base window running place first m n r11 r3 rf r7 r8 r0 =
+    by_test P (not (lent window m)) _ _ (λ _. r11) (λ _.
+    by_test P (not running) _ _ (λ _. r3) (λ _.
+    by_number P first (chain_number base window m place n) (λ _. rf) (λ _. by_chain P base window m place n r7 r8 r0)))
 
 -- a frame that is not refused is of an allowed length
-pub received-short : (base window : ℕ) (running : Bool) (place reason : ℕ) (m f : List ℕ) (n : ℕ)
-    → n ≡ receiveNumber base window running place (frameNumberBy reason f) m (length f) → n ≡ 0 → length f ≤ 1518
-unfolding receiveNumber
-received-short base window running place reason m f n e z =
+pub received_short : (base window : ℕ) (running : Bool) (place reason : ℕ) (m f : List ℕ) (n : ℕ)
+    → n ≡ receive_number base window running place (frame_number_by reason f) m (length f) → n ≡ 0 → length f ≤ 1518
+unfolding receive_number
+received_short base window running place reason m f n e z =
     let short : ℕ → Type 0 = λ k. k ≡ 0 → length f ≤ 1518 in
-    by-test short (not (lent window m)) _ _ (λ _ q. absurd (omega arith)) (λ _.
-    by-test short (not running) _ _ (λ _ q. absurd (omega arith)) (λ _.
-    by_number short (frameNumberBy reason f) (chainNumber base window m place (length f)) (λ _. passed-short reason f)
-    (λ t _. passed-short reason f (eqb-true (frameNumberBy reason f) 0 t))))
+    by_test short (not (lent window m)) _ _ (λ _ q. absurd (omega arith)) (λ _.
+    by_test short (not running) _ _ (λ _ q. absurd (omega arith)) (λ _.
+    by_number short (frame_number_by reason f) (chain_number base window m place (length f)) (λ _. passed_short reason f)
+    (λ t _. passed_short reason f (eqb-true (frame_number_by reason f) 0 t))))
     (rw e at z)

@@ -1,13 +1,13 @@
 -- 01, "A frame in": a receive, over the window's base and length, the registers and the lent memory. Assumes nothing.
 use Rattle.std.specs.Prelude.{ℕ, Bool, List, eqb, length}
 use Rattle.rules.specs.Choice.{if◌then◌else◌}
-use Rattle.descriptor.specs.Descriptor.{nextEnabled, nextWord}
-use Rattle.address_rule.specs.AddressRule.{addressRule}
-use Rattle.frame.specs.Frame.{frameNumberBy}
+use Rattle.descriptor.specs.Descriptor.{next_enabled, next_word}
+use Rattle.address_rule.specs.AddressRule.{address_rule}
+use Rattle.frame.specs.Frame.{frame_number_by}
 use Rattle.registers.specs.declared.Registers.{Registers}
 use Rattle.registers.specs.declared.Change.{Change}
-use Rattle.outcomes.specs.Outcomes.{rxRefused, rxAdvanced}
-use Rattle.receiving.specs.Receiving.{receiveNumber, delivered}
+use Rattle.outcomes.specs.Outcomes.{rx_refused, rx_advanced}
+use Rattle.receiving.specs.Receiving.{receive_number, delivered}
 
 -- what a receive gives: its number, the registers and the memory that it leaves
 pub record Received : Type 0 where
@@ -24,16 +24,16 @@ leaves n r m = record { number = n; registers = r; memory = m }
 
 -- what a frame leaves, by its number: 0 delivers it, with `reason`, what the address rule answers. The next word is the
 -- descriptor's own: a frame never lies over its own descriptor, so it is the same before and after the delivery
-abbrev pub receivedBy : ℕ → Registers → ℕ → ℕ → List ℕ → List ℕ → ℕ → Received
-receivedBy base r place reason m f n =
+abbrev pub received_by : ℕ → Registers → ℕ → ℕ → List ℕ → List ℕ → ℕ → Received
+received_by base r place reason m f n =
     if eqb n 0
-    then leaves 0 (rxAdvanced r (nextEnabled base m place) (nextWord base m place)) (delivered base m place reason f)
-    else leaves n (rxRefused n r) m
+    then leaves 0 (rx_advanced r (next_enabled base m place) (next_word base m place)) (delivered base m place reason f)
+    else leaves n (rx_refused n r) m
 
 -- what a frame meets: the engine runs or not, its place, and what the address rule answers
-unfoldable pub receiveAt : ℕ → ℕ → Registers → Bool → ℕ → ℕ → List ℕ → List ℕ → Received
-receiveAt base window r running place reason m f =
-    receivedBy base r place reason m f (receiveNumber base window running place (frameNumberBy reason f) m (length f))
+unfoldable pub receive_at : ℕ → ℕ → Registers → Bool → ℕ → ℕ → List ℕ → List ℕ → Received
+receive_at base window r running place reason m f =
+    received_by base r place reason m f (receive_number base window running place (frame_number_by reason f) m (length f))
 
 unfoldable pub receive : ℕ → ℕ → Registers → List ℕ → List ℕ → Received
-receive base window r m f = receiveAt base window r r.rx.running r.rx.place (addressRule r.filter f) m f
+receive base window r m f = receive_at base window r r.rx.running r.rx.place (address_rule r.filter f) m f

@@ -1,7 +1,7 @@
 // The number of a receive.
 ghost use Rattle.std.specs.Prelude.{◌≡◌};
-ghost use Rattle.reason.specs.Reason.{reasonNumber};
-ghost use Rattle.receiving.specs.Receiving.{receiveNumberOf};
+ghost use Rattle.reason.specs.Reason.{reason_number};
+ghost use Rattle.receiving.specs.Receiving.{receive_number_of};
 
 use engine::Engine;
 use reason::Reason;
@@ -15,7 +15,7 @@ pub(crate) fn number(
     m: &[u8],
     frame: &[u8],
 ) -> u32
-    ensures { result ≡ receiveNumberOf base window rx (reasonNumber reason) m.now frame.now }
+    ensures { result ≡ receive_number_of base window rx (reason_number reason) m.now frame.now }
 {
     if !window::lent(window, m) {
         return answer::LENT_LENGTH;

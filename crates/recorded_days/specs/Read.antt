@@ -6,5 +6,5 @@ use Rattle.trace.specs.Reading.{Reading, refused, reading_of, read}
 use Rattle.recorded_days.specs.declared.Loaded.{Loaded}
 
 -- of what was loaded of it, into a room
-unfoldable pub readLoaded : Loaded → List ℕ → List ℕ → Reading
-readLoaded l trace room = if l.more then reading_of (refused 23 0) room else read (take l.trace trace) room
+unfoldable pub read_loaded : Loaded → List ℕ → List ℕ → Reading
+read_loaded l trace room = if l.more then reading_of (refused 23 0) room else read (take l.trace trace) room

@@ -1,7 +1,7 @@
 // A recorded day as programs take it: the files that their first two arguments name, the trace and the memory image (docs/TRACE.md).
 ghost use Rattle.std.specs.Prelude.{◌≤◌, ◌≡◌, length};
 ghost use Rattle.trace.specs.Reading.{reading_of};
-ghost use Rattle.recorded_days.specs.Read.{readLoaded};
+ghost use Rattle.recorded_days.specs.Read.{read_loaded};
 
 use trace::Summary;
 
@@ -39,7 +39,7 @@ pub fn load(trace: &mut [u8], memory: &mut [u8]) -> Loaded
 
 // What the trace says, and its events at the front of the room.
 pub fn read(loaded: Loaded, trace: &[u8], events: &mut [u8]) -> Summary
-    ensures { reading_of result events.new ≡ readLoaded loaded trace.now events.old }
+    ensures { reading_of result events.new ≡ read_loaded loaded trace.now events.old }
 {
     if loaded.more {
         return Summary {

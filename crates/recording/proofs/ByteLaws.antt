@@ -5,54 +5,54 @@ use mathlib.Core.Bool.{Bool, true, false, not}
 use mathlib.Core.List.{List}
 use borrow.Author.Tests.{eq-eqb, ne_eqb, lt-ltb, le-ltb}
 use lib.ListN.{length, take}
-use Rattle.rules.proofs.Choices.{said-yes, said-no}
+use Rattle.rules.proofs.Choices.{said_yes, said_no}
 use Rattle.memory.specs.Memory.{store}
-use Rattle.window.specs.Window.{inWindow, offset}
+use Rattle.window.specs.Window.{in_window, offset}
 use Rattle.event.specs.Event.{frame, send, bytes_of}
 use Rattle.appending.specs.Put.{put_of, put}
 use Rattle.forms.specs.Pairs.{named, decoded, decode}
-use Rattle.forms.proofs.NamedLaws.{named-is}
+use Rattle.forms.proofs.NamedLaws.{named_is}
 use Rattle.recording.specs.declared.Day.{Day}
 use Rattle.recording.specs.Day.{more, failed}
-use Rattle.recording.specs.Bytes.{Poked, poked, mayPoke, poke, listed, place, happened, append, sendInto}
-use Rattle.recording.proofs.DayLaws.{grown-is, overflown-is}
+use Rattle.recording.specs.Bytes.{Poked, poked, may_poke, poke, listed, place, happened, append, send_into}
+use Rattle.recording.proofs.DayLaws.{grown_is, overflown_is}
 
 -- ---- the image
 
 module _ (d : Day) (address : ℕ) where
-  pub poke-late : (n : ℕ) → (d.events ≡ 0 → ⊥) → false ≡ mayPoke d address n
-  poke-late n h = rw (ne_eqb d.events 0 h)
+  pub poke_late : (n : ℕ) → (d.events ≡ 0 → ⊥) → false ≡ may_poke d address n
+  poke_late n h = rw (ne_eqb d.events 0 h)
 
-  pub poke-early : (n : ℕ) (r : Bool) → d.events ≡ 0 → r ≡ inWindow d.base d.window address n → r ≡ mayPoke d address n
-  poke-early n r h e = rw (eq-eqb d.events 0 h) e
+  pub poke_early : (n : ℕ) (r : Bool) → d.events ≡ 0 → r ≡ in_window d.base d.window address n → r ≡ may_poke d address n
+  poke_early n r h e = rw (eq-eqb d.events 0 h) e
 
-  module _ (m s : List ℕ) (may : Bool) (e : may ≡ mayPoke d address (length s)) where
-    pub poke-wrong : (r : Day) → not may ≡ true → r ≡ failed d → poked r m ≡ poke d m address s
+  module _ (m s : List ℕ) (may : Bool) (e : may ≡ may_poke d address (length s)) where
+    pub poke_wrong : (r : Day) → not may ≡ true → r ≡ failed d → poked r m ≡ poke d m address s
     unfolding poke
-    poke-wrong r n f = rw (said-no (mayPoke d address (length s)) may e n) (λ j. record { day = f j; image = m })
+    poke_wrong r n f = rw (said_no (may_poke d address (length s)) may e n) (λ j. record { day = f j; image = m })
 
-    pub poke-stored : (m' : List ℕ) (from : ℕ) → not may ≡ false → from ≡ offset d.base address → m' ≡ store m from s → poked d m' ≡ poke d m address s
+    pub poke_stored : (m' : List ℕ) (from : ℕ) → not may ≡ false → from ≡ offset d.base address → m' ≡ store m from s → poked d m' ≡ poke d m address s
     unfolding poke
-    poke-stored m' from n o k =
-        rw (said-yes (mayPoke d address (length s)) may e n, ← o) (λ j. record { day = d; image = k j })
+    poke_stored m' from n o k =
+        rw (said_yes (may_poke d address (length s)) may e n, ← o) (λ j. record { day = d; image = k j })
 
 -- of the bytes that a word names
-pub poke-named : (d : Day) (address : ℕ) (m word out out' s : List ℕ) (n : ℕ) (x : Poked) → 2048 ≡ length out → decoded n out' ≡ decode word out
+pub poke_named : (d : Day) (address : ℕ) (m word out out' s : List ℕ) (n : ℕ) (x : Poked) → 2048 ≡ length out → decoded n out' ≡ decode word out
     → s ≡ take n out' → x ≡ poke d m address s → x ≡ poke d m address (named word)
-poke-named d address m word out out' s n x l e p h = h ∙ ap (λ (s : List ℕ). poke d m address s) (p ∙ named-is word out out' n l e)
+poke_named d address m word out out' s n x l e p h = h ∙ ap (λ (s : List ℕ). poke d m address s) (p ∙ named_is word out out' n l e)
 
 -- ---- the event list
 
 module _ (d : Day) (end n : ℕ) (e : n ≡ more d.events) where
-  pub happened-past : end ≡ 0
+  pub happened_past : end ≡ 0
       → record { begun = d.begun; base = d.base; window = d.window; bytes = d.bytes; events = n; lines = d.lines; wrong = d.wrong; full = true } ≡ happened d end
   unfolding happened
-  happened-past z = rw (eq-eqb end 0 z) (overflown-is d n e)
+  happened_past z = rw (eq-eqb end 0 z) (overflown_is d n e)
 
-  pub happened-there : (end ≡ 0 → ⊥)
+  pub happened_there : (end ≡ 0 → ⊥)
       → record { begun = d.begun; base = d.base; window = d.window; bytes = end; events = n; lines = d.lines; wrong = d.wrong; full = d.full } ≡ happened d end
   unfolding happened
-  happened-there z = rw (ne_eqb end 0 z) (grown-is d end n e)
+  happened_there z = rw (ne_eqb end 0 z) (grown_is d end n e)
 
 module _ (d r : Day) (l l' : List ℕ) (at end : ℕ) (a : at ≡ place d (length l)) (h : r ≡ happened d end) where
   pub appended : (s : List ℕ) → put_of end l' ≡ put l at s → listed r l' ≡ append d l s
@@ -61,15 +61,15 @@ module _ (d r : Day) (l l' : List ℕ) (at end : ℕ) (a : at ≡ place d (lengt
       let q : put_of end l' ≡ put l (place d (length l)) s = rw a at p in rw h (λ j. listed (happened d (q j).end) (q j).list)
 
   -- of a frame that a word names
-  pub frame-appended : (word out out' s : List ℕ) (n : ℕ) → 2048 ≡ length out → decoded n out' ≡ decode word out → s ≡ take n out'
+  pub frame_appended : (word out out' s : List ℕ) (n : ℕ) → 2048 ≡ length out → decoded n out' ≡ decode word out → s ≡ take n out'
       → put_of end l' ≡ put l at (bytes_of (frame s)) → listed r l' ≡ append d l (bytes_of (frame (named word)))
-  frame-appended word out out' s n k e q p =
-      appended (bytes_of (frame s)) p ∙ ap (λ (s : List ℕ). append d l (bytes_of (frame s))) (q ∙ named-is word out out' n k e)
+  frame_appended word out out' s n k e q p =
+      appended (bytes_of (frame s)) p ∙ ap (λ (s : List ℕ). append d l (bytes_of (frame s))) (q ∙ named_is word out out' n k e)
 
-  pub send-appended : (room : ℕ) → 1518 ≤ room → put_of end l' ≡ put l at (bytes_of send) → listed r l' ≡ sendInto d l room
-  unfolding sendInto
-  send-appended room m p = rw (le-ltb room 1518 m) (appended (bytes_of send) p)
+  pub send_appended : (room : ℕ) → 1518 ≤ room → put_of end l' ≡ put l at (bytes_of send) → listed r l' ≡ send_into d l room
+  unfolding send_into
+  send_appended room m p = rw (le-ltb room 1518 m) (appended (bytes_of send) p)
 
-pub send-short : (d r : Day) (l : List ℕ) (room : ℕ) → room < 1518 → r ≡ failed d → listed r l ≡ sendInto d l room
-unfolding sendInto
-send-short d r l room h e = rw (lt-ltb room 1518 h) (λ j. record { day = e j; list = l })
+pub send_short : (d r : Day) (l : List ℕ) (room : ℕ) → room < 1518 → r ≡ failed d → listed r l ≡ send_into d l room
+unfolding send_into
+send_short d r l room h e = rw (lt-ltb room 1518 h) (λ j. record { day = e j; list = l })

@@ -3,8 +3,8 @@ use Prim.Native.Nat.{ℕ, ◌+◌, ◌-◌, ◌^◌, ◌≤◌, ◌<◌}
 use mathlib.Core.Path.{◌≡◌}
 use mathlib.Core.Bool.{Bool, true, false, not}
 use borrow.Author.Tests.{lt-ltb, le-ltb}
-use Rattle.rules.proofs.Choices.{said-yes, said-no}
-use Rattle.window.specs.Window.{windowAllowed}
+use Rattle.rules.proofs.Choices.{said_yes, said_no}
+use Rattle.window.specs.Window.{window_allowed}
 use Rattle.recording.specs.declared.Day.{Day}
 use Rattle.recording.specs.Day.{more, counted, failed, opened, grown, overflown, new}
 
@@ -21,19 +21,19 @@ module _ (d : Day) where
       → record { begun = d.begun; base = d.base; window = d.window; bytes = d.bytes; events = d.events; lines = n; wrong = d.wrong; full = d.full } ≡ counted d
   counted_is n e = λ j. record { begun = d.begun; base = d.base; window = d.window; bytes = d.bytes; events = d.events; lines = e j; wrong = d.wrong; full = d.full }
 
-  pub grown-is : (end n : ℕ) → n ≡ more d.events
+  pub grown_is : (end n : ℕ) → n ≡ more d.events
       → record { begun = d.begun; base = d.base; window = d.window; bytes = end; events = n; lines = d.lines; wrong = d.wrong; full = d.full } ≡ grown d end
-  grown-is end n e = λ j. record { begun = d.begun; base = d.base; window = d.window; bytes = end; events = e j; lines = d.lines; wrong = d.wrong; full = d.full }
+  grown_is end n e = λ j. record { begun = d.begun; base = d.base; window = d.window; bytes = end; events = e j; lines = d.lines; wrong = d.wrong; full = d.full }
 
-  pub overflown-is : (n : ℕ) → n ≡ more d.events
+  pub overflown_is : (n : ℕ) → n ≡ more d.events
       → record { begun = d.begun; base = d.base; window = d.window; bytes = d.bytes; events = n; lines = d.lines; wrong = d.wrong; full = true } ≡ overflown d
-  overflown-is n e = λ j. record { begun = d.begun; base = d.base; window = d.window; bytes = d.bytes; events = e j; lines = d.lines; wrong = d.wrong; full = true }
+  overflown_is n e = λ j. record { begun = d.begun; base = d.base; window = d.window; bytes = d.bytes; events = e j; lines = d.lines; wrong = d.wrong; full = true }
 
-  module _ (base window : ℕ) (allowed : Bool) (e : allowed ≡ windowAllowed base window) where
-    pub new-refused : (r : Day) → not allowed ≡ true → r ≡ failed d → r ≡ new d base window
+  module _ (base window : ℕ) (allowed : Bool) (e : allowed ≡ window_allowed base window) where
+    pub new_refused : (r : Day) → not allowed ≡ true → r ≡ failed d → r ≡ new d base window
     unfolding new
-    new-refused r n f = rw (said-no (windowAllowed base window) allowed e n) f
+    new_refused r n f = rw (said_no (window_allowed base window) allowed e n) f
 
-    pub new-allowed : not allowed ≡ false → opened d base window ≡ new d base window
+    pub new_allowed : not allowed ≡ false → opened d base window ≡ new d base window
     unfolding new
-    new-allowed n = rw (said-yes (windowAllowed base window) allowed e n)
+    new_allowed n = rw (said_yes (window_allowed base window) allowed e n)

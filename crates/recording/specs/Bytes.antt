@@ -2,7 +2,7 @@
 use Rattle.std.specs.Prelude.{ℕ, Bool, ◌&&◌, List, eqb, ltb, length}
 use Rattle.rules.specs.Choice.{if◌then◌else◌}
 use Rattle.memory.specs.Memory.{store}
-use Rattle.window.specs.Window.{inWindow, offset}
+use Rattle.window.specs.Window.{in_window, offset}
 use Rattle.event.specs.Event.{send, bytes_of}
 use Rattle.appending.specs.Put.{put}
 use Rattle.recording.specs.declared.Day.{Day}
@@ -18,13 +18,13 @@ abbrev pub poked : Day → List ℕ → Poked
 poked d m = record { day = d; image = m }
 
 -- "a `poke` outside the window or behind the first event writes `error L`"
-abbrev pub mayPoke : Day → ℕ → ℕ → Bool
-mayPoke d address n = eqb d.events 0 && inWindow d.base d.window address n
+abbrev pub may_poke : Day → ℕ → ℕ → Bool
+may_poke d address n = eqb d.events 0 && in_window d.base d.window address n
 
 -- "any `poke` into the window, which write the image"
 unfoldable pub poke : Day → List ℕ → ℕ → List ℕ → Poked
 poke d m address s =
-    if mayPoke d address (length s) then poked d (store m (offset d.base address) s) else poked (failed d) m
+    if may_poke d address (length s) then poked d (store m (offset d.base address) s) else poked (failed d) m
 
 -- ---- the event list
 
@@ -48,5 +48,5 @@ unfoldable pub append : Day → List ℕ → List ℕ → Listed
 append d l s = let p = put l (place d (length l)) s in listed (happened d p.end) p.list
 
 -- "`send` with a room of 1,518 or more"
-unfoldable pub sendInto : Day → List ℕ → ℕ → Listed
-sendInto d l room = if ltb room 1518 then listed (failed d) l else append d l (bytes_of send)
+unfoldable pub send_into : Day → List ℕ → ℕ → Listed
+send_into d l room = if ltb room 1518 then listed (failed d) l else append d l (bytes_of send)

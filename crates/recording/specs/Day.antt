@@ -1,7 +1,7 @@
 -- A recorded day so far, and how it goes on. Assumes nothing.
 use Rattle.std.specs.Prelude.{ℕ, ◌+◌, ◌-◌, ◌^◌, true, false, ltb}
 use Rattle.rules.specs.Choice.{if◌then◌else◌}
-use Rattle.window.specs.Window.{windowAllowed}
+use Rattle.window.specs.Window.{window_allowed}
 use Rattle.recording.specs.declared.Day.{Day}
 
 -- before the first line
@@ -84,4 +84,4 @@ overflown d =
 
 -- "first `new BASE LENGTH`, which must be allowed"
 unfoldable pub new : Day → ℕ → ℕ → Day
-new d base window = if windowAllowed base window then opened d base window else failed d
+new d base window = if window_allowed base window then opened d base window else failed d

@@ -1,7 +1,7 @@
 -- docs/TRACE.md, "record": a recorded day of a console script, line by line. Assumes nothing.
 use Rattle.std.specs.Prelude.{ℕ, not, ◌||◌, List, eqb}
 use Rattle.rules.specs.Choice.{if◌then◌else◌}
-use Rattle.event.specs.Event.{registerWrite, grant, frame, bytes_of}
+use Rattle.event.specs.Event.{register_write, grant, frame, bytes_of}
 use Rattle.words.specs.Words.{rest}
 use Rattle.forms.specs.Pairs.{named}
 use Rattle.script.specs.declared.Call.{Call}
@@ -13,7 +13,7 @@ use Rattle.recording.specs.declared.Day.{Day}
 use Rattle.recording.specs.declared.steps.Step.{Step}
 use Rattle.recording.specs.declared.steps.Step.TheVariants.{New, Poke, Write, Grant, Frame, Send, Other}
 use Rattle.recording.specs.Day.{counted, failed, new}
-use Rattle.recording.specs.Bytes.{Poked, Listed, poke, append, sendInto}
+use Rattle.recording.specs.Bytes.{Poked, Listed, poke, append, send_into}
 
 -- the day, the memory image and the event list
 pub record Recorded : Type 0 where
@@ -24,8 +24,8 @@ pub record Recorded : Type 0 where
 abbrev pub recorded : Day → List ℕ → List ℕ → Recorded
 recorded d m l = record { day = d; image = m; list = l }
 
-abbrev pub withImage : Poked → List ℕ → Recorded
-withImage p l = recorded p.day p.image l
+abbrev pub with_image : Poked → List ℕ → Recorded
+with_image p l = recorded p.day p.image l
 
 abbrev pub with_list : Listed → List ℕ → Recorded
 with_list a m = recorded a.day m a.list
@@ -66,11 +66,11 @@ first Other d a b = failed d
 -- room of 1,518 or more: the events"
 abbrev pub later : Step → Day → List ℕ → List ℕ → ℕ → ℕ → List ℕ → Recorded
 later New d m l a b line = recorded (failed d) m l
-later Poke d m l a b line = withImage (poke d m a (named (rest (rest line)))) l
-later Write d m l a b line = with_list (append d l (bytes_of (registerWrite a b))) m
+later Poke d m l a b line = with_image (poke d m a (named (rest (rest line)))) l
+later Write d m l a b line = with_list (append d l (bytes_of (register_write a b))) m
 later Grant d m l a b line = with_list (append d l (bytes_of (grant a))) m
 later Frame d m l a b line = with_list (append d l (bytes_of (frame (named (rest line))))) m
-later Send d m l a b line = with_list (sendInto d l a) m
+later Send d m l a b line = with_list (send_into d l a) m
 later Other d m l a b line = recorded (failed d) m l
 
 unfoldable pub called : Day → List ℕ → List ℕ → Call → List ℕ → Recorded

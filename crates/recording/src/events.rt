@@ -1,8 +1,8 @@
 // The events of a day, each behind those before it.
 ghost use Rattle.std.specs.Prelude.{◌≡◌};
-ghost use Rattle.event.specs.Event.{registerWrite, grant as aGrant, frame as aFrame, bytes_of};
+ghost use Rattle.event.specs.Event.{register_write, grant as a_grant, frame as aFrame, bytes_of};
 ghost use Rattle.forms.specs.Pairs.{named};
-ghost use Rattle.recording.specs.Bytes.{listed, place, happened, append, sendInto};
+ghost use Rattle.recording.specs.Bytes.{listed, place, happened, append, send_into};
 
 use crate::Day;
 use crate::firmware::blank;
@@ -32,14 +32,14 @@ fn happened(mut day: Day, end: usize) -> Day
 }
 
 pub(crate) fn write(day: Day, offset: u32, value: u32, list: &mut [u8]) -> Day
-    ensures { listed result list.new ≡ append day list.old (bytes_of (registerWrite offset value)) }
+    ensures { listed result list.new ≡ append day list.old (bytes_of (register_write offset value)) }
 {
     let at = place(day, list.len());
     happened(day, event_list::write(list, at, offset, value))
 }
 
 pub(crate) fn grant(day: Day, address: u32, list: &mut [u8]) -> Day
-    ensures { listed result list.new ≡ append day list.old (bytes_of (aGrant address)) }
+    ensures { listed result list.new ≡ append day list.old (bytes_of (a_grant address)) }
 {
     let at = place(day, list.len());
     happened(day, event_list::grant(list, at, address))
@@ -57,7 +57,7 @@ pub(crate) fn frame(day: Day, word: &[u8], list: &mut [u8]) -> Day
 
 // A single send, if its room is enough for any frame.
 pub(crate) fn send(day: Day, room: u32, list: &mut [u8]) -> Day
-    ensures { listed result list.new ≡ sendInto day list.old room }
+    ensures { listed result list.new ≡ send_into day list.old room }
 {
     if room < 1518 {
         return crate::failed(day);

@@ -1,7 +1,7 @@
 // What the firmware wrote into the window before the first event: the memory image.
 ghost use Rattle.std.specs.Prelude.{◌≡◌, ◌≤◌, length};
 ghost use Rattle.forms.specs.Pairs.{named};
-ghost use Rattle.recording.specs.Bytes.{poked, mayPoke, poke};
+ghost use Rattle.recording.specs.Bytes.{poked, may_poke, poke};
 
 use crate::Day;
 use forms::pairs;
@@ -15,7 +15,7 @@ pub(crate) fn blank() -> [u8; 2048]
 
 // Whether the firmware may write n bytes from an address on.
 fn may_poke(day: Day, address: u32, n: u32) -> bool
-    ensures { result ≡ mayPoke day address n }
+    ensures { result ≡ may_poke day address n }
 {
     if day.events != 0 {
         return false;

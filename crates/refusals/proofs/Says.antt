@@ -1,32 +1,32 @@
 -- What each call leaves if it is refused: the theorem. Assumes nothing.
 use mathlib.Core.Path.{◌≡◌, refl}
 use mathlib.Core.Logic.{◌≢◌}
-use Rattle.calls.specs.Calls.{Bench, Call, looks, registerWrite, grantCall, receiveCall, burstCall, sendCall, stepRun, tickCall, call}
-use Rattle.changes.proofs.Branches.{by-new}
-use Rattle.changes.proofs.Nowhere.{changes-nowhere-else}
-use Rattle.inputs.proofs.Receives.{pair-by-pair}
-use Rattle.refusals.specs.Rows.{rowOfNew}
+use Rattle.calls.specs.Calls.{Bench, Call, looks, register_write, grant_call, receive_call, burst_call, send_call, step_run, tick_call, call}
+use Rattle.changes.proofs.Branches.{by_new}
+use Rattle.changes.proofs.Nowhere.{changes_nowhere_else}
+use Rattle.inputs.proofs.Receives.{pair_by_pair}
+use Rattle.refusals.specs.Rows.{row_of_new}
 use Rattle.refusals.specs.Refusals.{ByRow, whole, RefusedLeaves}
-use Rattle.refusals.proofs.Looks.{look-row}
-use Rattle.refusals.proofs.Refused.{write-row, grant-row, receive-row, send-row, run_row, tick-row}
-use Rattle.refusals.proofs.Bursts.{burst-row, pair_row}
-use Rattle.refusals.proofs.Readings.{reading-row}
+use Rattle.refusals.proofs.Looks.{look_row}
+use Rattle.refusals.proofs.Refused.{write_row, grant_row, receive_row, send_row, run_row, tick_row}
+use Rattle.refusals.proofs.Bursts.{burst_row, pair_row}
+use Rattle.refusals.proofs.Readings.{reading_row}
 
 says : (b : Bench) (c : Call) → (call b c).number ≢ 0 → ByRow b c
-says b (looks look) n = whole (look-row b look n)
-says b (registerWrite offset value) n = whole (write-row b offset value n)
-says b (grantCall address) n = whole (grant-row b address n)
-says b (receiveCall frame) n = whole (receive-row b frame n)
-says b (burstCall store starts lengths answers) n = whole (burst-row b store starts lengths answers n)
-says b (sendCall output) n = whole (send-row b output n)
-says b (stepRun output allowance) n = run_row b output allowance n
-says b tickCall n = whole (tick-row b n)
+says b (looks look) n = whole (look_row b look n)
+says b (register_write offset value) n = whole (write_row b offset value n)
+says b (grant_call address) n = whole (grant_row b address n)
+says b (receive_call frame) n = whole (receive_row b frame n)
+says b (burst_call store starts lengths answers) n = whole (burst_row b store starts lengths answers n)
+says b (send_call output) n = whole (send_row b output n)
+says b (step_run output allowance) n = run_row b output allowance n
+says b tick_call n = whole (tick_row b n)
 
-pub refused-leaves : RefusedLeaves
-refused-leaves = record {
-  ofNew = λ base window. by-new (λ a. a.number ≢ 0 → a ≡ rowOfNew) base window (λ h. absurd (h refl)) (λ _. refl);
-  ofCall = says;
-  ofPair = λ b store starts lengths answers z k l n. pair_row _ _ _ _ _ (pair-by-pair b store starts lengths answers z k l) n;
-  ofRead = λ d offset _. changes-nowhere-else.registerRead d offset;
-  ofReading = reading-row;
+pub refused_leaves : RefusedLeaves
+refused_leaves = record {
+  of_new = λ base window. by_new (λ a. a.number ≢ 0 → a ≡ row_of_new) base window (λ h. absurd (h refl)) (λ _. refl);
+  of_call = says;
+  of_pair = λ b store starts lengths answers z k l n. pair_row _ _ _ _ _ (pair_by_pair b store starts lengths answers z k l) n;
+  of_read = λ d offset _. changes_nowhere_else.register_read d offset;
+  of_reading = reading_row;
 }

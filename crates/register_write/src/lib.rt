@@ -1,6 +1,6 @@
 // A register write: its number, and the registers that it leaves.
 ghost use Rattle.std.specs.Prelude.{◌≡◌};
-ghost use Rattle.register_write.specs.Write.{cleared, stored, writeNumber, write};
+ghost use Rattle.register_write.specs.Write.{cleared, stored, write_number, write};
 
 use registers::{Change, Register, Registers};
 
@@ -78,7 +78,7 @@ fn stored(r: Registers, register: Register, v: u32) -> Registers
 
 // The refusals, 2 and 15, or 0.
 fn write_number(receiving: bool, sending: bool, register: Register) -> u32
-    ensures { result ≡ writeNumber receiving sending register }
+    ensures { result ≡ write_number receiving sending register }
 {
     match register {
         Register::Ier => answer::DONE,

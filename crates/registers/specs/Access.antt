@@ -10,8 +10,8 @@ use Rattle.registers.specs.declared.Register.TheVariants.{Ier, Isr, RxStart, RxN
 -- "Modelled: interrupt status and enable, receive and send start, receive and send next descriptor, MAC control, MAC
 -- address high and low": by offset. 02, of the hash registers: "these registers leave row 2's reach"; Wish 9: "ENET_TXTOR
 -- (offset 48h) joins the modelled registers"
-unfoldable pub registerAt : ℕ → Register
-registerAt offset =
+unfoldable pub register_at : ℕ → Register
+register_at offset =
     if eqb offset 0x04 then Ier else
     if eqb offset 0x08 then Isr else
     if eqb offset 0x10 then RxStart else
@@ -43,20 +43,20 @@ value_of r Mcla = r.filter.mcla
 value_of r Unmodelled = 0
 
 -- row 2, register not modelled: "value 0, nothing changed"
-abbrev pub readNumber : Register → ℕ
-readNumber Ier = 0
-readNumber Isr = 0
-readNumber RxStart = 0
-readNumber RxNext = 0
-readNumber TxStart = 0
-readNumber TxNext = 0
-readNumber TxTimeout = 0
-readNumber Mcr = 0
-readNumber Mah = 0
-readNumber Mal = 0
-readNumber Mcha = 0
-readNumber Mcla = 0
-readNumber Unmodelled = 2
+abbrev pub read_number : Register → ℕ
+read_number Ier = 0
+read_number Isr = 0
+read_number RxStart = 0
+read_number RxNext = 0
+read_number TxStart = 0
+read_number TxNext = 0
+read_number TxTimeout = 0
+read_number Mcr = 0
+read_number Mah = 0
+read_number Mal = 0
+read_number Mcha = 0
+read_number Mcla = 0
+read_number Unmodelled = 2
 
 unfoldable pub read : Registers → ℕ → Found
-read r offset = record { number = readNumber (registerAt offset); value = value_of r (registerAt offset) }
+read r offset = record { number = read_number (register_at offset); value = value_of r (register_at offset) }

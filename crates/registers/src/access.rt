@@ -1,13 +1,13 @@
 // Which register stands at an offset, and a register read.
 ghost use Rattle.std.specs.Prelude.{◌≡◌};
-ghost use Rattle.registers.specs.Access.{registerAt, value_of, readNumber, read};
+ghost use Rattle.registers.specs.Access.{register_at, value_of, read_number, read};
 
 use crate::{Found, Register, Registers};
 
 impl Register {
     // The register at an offset.
     pub fn at(offset: u32) -> Register
-        ensures { result ≡ registerAt offset }
+        ensures { result ≡ register_at offset }
     {
         match offset {
             Registers::IER => Register::Ier,
@@ -28,7 +28,7 @@ impl Register {
 
     // The refusal of a read, 2, or 0.
     fn read_number(self) -> u32
-        ensures { result ≡ readNumber self }
+        ensures { result ≡ read_number self }
     {
         match self {
             Register::Ier => answer::DONE,

@@ -2,7 +2,7 @@
 mod access;
 
 ghost use Rattle.std.specs.Prelude.{◌≡◌};
-ghost use Rattle.registers.specs.Registers.{reset, interruptLine};
+ghost use Rattle.registers.specs.Registers.{reset, interrupt_line};
 
 use engine::Engine;
 use filter::Filter;
@@ -165,7 +165,7 @@ impl Registers {
 
     // The interrupt line is high.
     pub fn interrupt_line(self) -> bool
-        ensures { result ≡ interruptLine self }
+        ensures { result ≡ interrupt_line self }
     {
         self.isr & self.ier != 0
     }

@@ -4,10 +4,10 @@ use Rattle.std.specs.Prelude.{ℕ, List, eqb, ltb, length}
 use Rattle.rules.specs.Choice.{if◌then◌else◌}
 use Rattle.memory.specs.Memory.{store}
 use Rattle.event.specs.Walk.{walk}
-use Rattle.stream.specs.Stream.{eventBytes}
+use Rattle.stream.specs.Stream.{event_bytes}
 use Rattle.trace.specs.Reading.{look}
 use Rattle.enet.specs.Device.{new, reset}
-use Rattle.playback.specs.Playing.{play, benchOf}
+use Rattle.playback.specs.Playing.{play, bench_of}
 use Rattle.replaying.specs.declared.Replayed.{Replayed}
 
 -- what a replay gives: its number, with the bad block where it is a block's, the bytes and the number of the events, the device;
@@ -28,8 +28,8 @@ abbrev pub refusal : ℕ → ℕ → Replayed
 refusal number block = record { number = number; block = block; bytes = 0; events = 0; device = reset }
 
 -- the reading's number first, then 24
-unfoldable pub replayNumber : List ℕ → ℕ → ℕ → ℕ
-replayNumber t room answers =
+unfoldable pub replay_number : List ℕ → ℕ → ℕ → ℕ
+replay_number t room answers =
     let f = look t room in
     if eqb f.number 0 then (if ltb answers f.events then 24 else 0) else f.number
 
@@ -37,10 +37,10 @@ replayNumber t room answers =
 abbrev pub played : List ℕ → List ℕ → List ℕ → List ℕ → List ℕ → Replaying
 played t room memory output answers =
     let f = look t (length room) in
-    let p = play (benchOf (new f.base f.window).device memory) output (walk (eventBytes t)).events in
+    let p = play (bench_of (new f.base f.window).device memory) output (walk (event_bytes t)).events in
     replaying
     (record { number = 0; block = 0; bytes = f.bytes; events = f.events; device = p.bench.device })
-    (store room 0 (eventBytes t))
+    (store room 0 (event_bytes t))
     p.bench.memory
     p.output
     (store answers 0 p.answers)
@@ -48,7 +48,7 @@ played t room memory output answers =
 -- a refusal "changes nothing" of what is lent
 unfoldable pub replay : List ℕ → List ℕ → List ℕ → List ℕ → List ℕ → Replaying
 replay t room memory output answers =
-    let n = replayNumber t (length room) (length answers) in
+    let n = replay_number t (length room) (length answers) in
     if eqb n 0
     then played t room memory output answers
     else replaying (refusal n (look t (length room)).block) room memory output answers

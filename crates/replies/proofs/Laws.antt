@@ -10,9 +10,9 @@ use Rattle.replies.specs.Replies.{newline, said, either, numbered, valued}
 
 -- the text before a line, the name that it begins with, and what the code has in the end
 module _ (t t₁ : List ℕ) (at end₁ : ℕ) (name : List ℕ) (x : Text) (e₁ : written end₁ t₁ ≡ put t at name) where
-  pub said-is : x ≡ put t₁ end₁ newline → x ≡ put t at (said name)
+  pub said_is : x ≡ put t₁ end₁ newline → x ≡ put t at (said name)
   unfolding said
-  said-is h = put_then t t₁ at end₁ name newline x e₁ h
+  said_is h = put_then t t₁ at end₁ name newline x e₁ h
 
   module _ (t₂ : List ℕ) (end₂ : ℕ) where
     -- a name, and a field behind it
@@ -23,9 +23,9 @@ module _ (t t₁ : List ℕ) (at end₁ : ℕ) (name : List ℕ) (x : Text) (e�
     unfolding numbered
     numbered_is n e₂ h = put_then t t₂ at end₂ (name ++ number n) newline x (two (number n) e₂) h
 
-    pub valued-is : (v : ℕ) → written end₂ t₂ ≡ put t₁ end₁ (value v) → x ≡ put t₂ end₂ newline → x ≡ put t at (valued name v)
+    pub valued_is : (v : ℕ) → written end₂ t₂ ≡ put t₁ end₁ (value v) → x ≡ put t₂ end₂ newline → x ≡ put t at (valued name v)
     unfolding valued
-    valued-is v e₂ h = put_then t t₂ at end₂ (name ++ value v) newline x (two (value v) e₂) h
+    valued_is v e₂ h = put_then t t₂ at end₂ (name ++ value v) newline x (two (value v) e₂) h
 
 -- one of two
 module _ (t : List ℕ) (at : ℕ) (a b : List ℕ) (holds : Bool) (x : Text) where

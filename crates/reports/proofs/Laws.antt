@@ -12,9 +12,9 @@ use Rattle.reports.specs.Reports.{read, held, shown}
 -- the text before a line, the name that it begins with, and what the code has in the end
 module _ (t t₁ : List ℕ) (at end₁ : ℕ) (name : List ℕ) (x : Text) (e₁ : written end₁ t₁ ≡ put t at name) where
   module _ (t₂ : List ℕ) (end₂ : ℕ) where
-    pub held-is : (s : List ℕ) → written end₂ t₂ ≡ put t₁ end₁ (bytes s) → x ≡ put t₂ end₂ newline → x ≡ put t at (held name s)
+    pub held_is : (s : List ℕ) → written end₂ t₂ ≡ put t₁ end₁ (bytes s) → x ≡ put t₂ end₂ newline → x ≡ put t at (held name s)
     unfolding held
-    held-is s e₂ h = put_then t t₂ at end₂ (name ++ bytes s) newline x (two t t₁ at end₁ name x e₁ t₂ end₂ (bytes s) e₂) h
+    held_is s e₂ h = put_then t t₂ at end₂ (name ++ bytes s) newline x (two t t₁ at end₁ name x e₁ t₂ end₂ (bytes s) e₂) h
 
     module _ (n : ℕ) (e₂ : written end₂ t₂ ≡ put t₁ end₁ (number n)) (t₃ : List ℕ) (end₃ : ℕ) where
       three : (a : List ℕ) → written end₃ t₃ ≡ put t₂ end₂ a → written end₃ t₃ ≡ put t at (name ++ number n ++ a)
@@ -24,6 +24,6 @@ module _ (t t₁ : List ℕ) (at end₁ : ℕ) (name : List ℕ) (x : Text) (e�
       unfolding read
       read_is v e₃ h = put_then t t₃ at end₃ (name ++ number n ++ value v) newline x (three (value v) e₃) h
 
-      pub shown-is : (s : List ℕ) → written end₃ t₃ ≡ put t₂ end₂ (bytes s) → x ≡ put t₃ end₃ newline → x ≡ put t at (shown name n s)
+      pub shown_is : (s : List ℕ) → written end₃ t₃ ≡ put t₂ end₂ (bytes s) → x ≡ put t₃ end₃ newline → x ≡ put t at (shown name n s)
       unfolding shown
-      shown-is s e₃ h = put_then t t₃ at end₃ (name ++ number n ++ bytes s) newline x (three (bytes s) e₃) h
+      shown_is s e₃ h = put_then t t₃ at end₃ (name ++ number n ++ bytes s) newline x (three (bytes s) e₃) h

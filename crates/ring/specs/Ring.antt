@@ -3,23 +3,23 @@ use Rattle.std.specs.Prelude.{ℕ, zero, suc, Bool, true, ◌&&◌, List, eqb, l
 use Rattle.window.specs.Window.{lent}
 use Rattle.address.specs.Address.{aligned}
 use Rattle.descriptor.specs.Descriptor.{next}
-use Rattle.ring_descriptors.specs.RingDescriptors.{soundDescriptor, regionsApart}
+use Rattle.ring_descriptors.specs.RingDescriptors.{sound_descriptor, regions_apart}
 
 -- the regions of d and those of the `left` descriptors from e on share no byte
-unfoldable pub apartFromRest : ℕ → List ℕ → ℕ → ℕ → ℕ → Bool
-apartFromRest base m d zero e = true
-apartFromRest base m d (suc left) e = regionsApart base m d e && apartFromRest base m d left (next base m e)
+unfoldable pub apart_from_rest : ℕ → List ℕ → ℕ → ℕ → ℕ → Bool
+apart_from_rest base m d zero e = true
+apart_from_rest base m d (suc left) e = regions_apart base m d e && apart_from_rest base m d left (next base m e)
 
 -- "The chain is followed recursively, one descriptor fewer to go at each call": the `left` descriptors from d on are sound
 -- and apart, so distinct, "and then the first again"
-unfoldable pub ringFrom : ℕ → ℕ → List ℕ → ℕ → ℕ → ℕ → Bool
-ringFrom base window m first zero d = eqb d first
-ringFrom base window m first (suc left) d =
-    soundDescriptor base window m d && apartFromRest base m d left (next base m d) && ringFrom base window m first left (next base m d)
+unfoldable pub ring_from : ℕ → ℕ → List ℕ → ℕ → ℕ → ℕ → Bool
+ring_from base window m first zero d = eqb d first
+ring_from base window m first (suc left) d =
+    sound_descriptor base window m d && apart_from_rest base m d left (next base m d) && ring_from base window m first left (next base m d)
 
 -- "For a number of descriptors from 1 to 32 and a first address, the answer is yes exactly if .. Any other number, a first
 -- address not a multiple of 4, or lent memory of another length gives no." Amended by 02, Wish 5: "a ring is sound only with it in
--- every descriptor", the polling bit (`soundDescriptor`)
-unfoldable pub soundRing : ℕ → ℕ → List ℕ → ℕ → ℕ → Bool
-soundRing base window m number first =
-    lent window m && leb 1 number && leb number 32 && aligned first && ringFrom base window m first number first
+-- every descriptor", the polling bit (`sound_descriptor`)
+unfoldable pub sound_ring : ℕ → ℕ → List ℕ → ℕ → ℕ → Bool
+sound_ring base window m number first =
+    lent window m && leb 1 number && leb number 32 && aligned first && ring_from base window m first number first

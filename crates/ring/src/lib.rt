@@ -1,10 +1,10 @@
 // The ring check: whether following the next words gives a sound ring of descriptors.
 ghost use Rattle.std.specs.Prelude.{◌≡◌};
-ghost use Rattle.ring.specs.Ring.{apartFromRest, ringFrom, soundRing};
+ghost use Rattle.ring.specs.Ring.{apart_from_rest, ring_from, sound_ring};
 
 // The regions of d and those of the descriptors left, from e on, share no byte.
 fn apart_from_rest(base: u32, m: &[u8], d: u32, left: u32, e: u32) -> bool
-    ensures { result ≡ apartFromRest base m.now d left e }
+    ensures { result ≡ apart_from_rest base m.now d left e }
 {
     if left == 0 {
         return true;
@@ -17,7 +17,7 @@ fn apart_from_rest(base: u32, m: &[u8], d: u32, left: u32, e: u32) -> bool
 
 // The descriptors left, from d on, are sound and apart, and then comes the first.
 fn ring_from(base: u32, window: u32, m: &[u8], first: u32, left: u32, d: u32) -> bool
-    ensures { result ≡ ringFrom base window m.now first left d }
+    ensures { result ≡ ring_from base window m.now first left d }
 {
     if left == 0 {
         return d == first;
@@ -34,7 +34,7 @@ fn ring_from(base: u32, window: u32, m: &[u8], first: u32, left: u32, d: u32) ->
 
 // Whether `number` descriptors from `first` on are a sound ring.
 pub fn sound_ring(base: u32, window: u32, m: &[u8], number: u32, first: u32) -> bool
-    ensures { result ≡ soundRing base window m.now number first }
+    ensures { result ≡ sound_ring base window m.now number first }
 {
     if !window::lent(window, m) {
         return false;

@@ -1,10 +1,10 @@
 // The descriptors of a sound ring: one by itself, and two that share no byte.
 ghost use Rattle.std.specs.Prelude.{◌≡◌};
-ghost use Rattle.ring_descriptors.specs.RingDescriptors.{soundDescriptor, regionsApart};
+ghost use Rattle.ring_descriptors.specs.RingDescriptors.{sound_descriptor, regions_apart};
 
 // A descriptor of a sound ring, by itself.
 pub fn sound_descriptor(base: u32, window: u32, m: &[u8], d: u32) -> bool
-    ensures { result ≡ soundDescriptor base window m.now d }
+    ensures { result ≡ sound_descriptor base window m.now d }
 {
     if !window::in_window(base, window, d, 16) {
         return false;
@@ -31,7 +31,7 @@ pub fn sound_descriptor(base: u32, window: u32, m: &[u8], d: u32) -> bool
 
 // The regions of two descriptors share no byte.
 pub fn regions_apart(base: u32, m: &[u8], d: u32, e: u32) -> bool
-    ensures { result ≡ regionsApart base m.now d e }
+    ensures { result ≡ regions_apart base m.now d e }
 {
     if !address::apart(d, 16, e, 16) {
         return false;

@@ -5,81 +5,81 @@ use mathlib.Core.List.{List}
 use Prim.Native.Nat.{ℕ, ◌≤◌, ◌<◌}
 use borrow.Author.Tests.{lt-ltb, le-ltb}
 use lib.ListN.{length}
-use Rattle.rules.proofs.Choices.{said-not}
+use Rattle.rules.proofs.Choices.{said_not}
 use Rattle.forms.specs.declared.numbers.Number.{Number}
 use Rattle.forms.specs.declared.numbers.Number.TheVariants.{Is, Wrong}
 use Rattle.script.specs.declared.Command.{Command}
 use Rattle.script.specs.declared.Command.TheVariants.{Burst}
 use Rattle.script.specs.declared.Call.{Call}
-use Rattle.script.specs.Calls.{noCall, given, alone, withOne, withTwo, withMore, call_of}
+use Rattle.script.specs.Calls.{no_call, given, alone, with_one, with_two, with_more, call_of}
 use Rattle.forms.specs.Numbers.{decimal}
-use Rattle.pair_words.specs.PairWords.{pairsBehind}
+use Rattle.pair_words.specs.PairWords.{pairs_behind}
 use Rattle.words.specs.Words.{characters, is, spaced, first, rest}
 
 -- ---- a command with its numbers
 
 module _ (command : Command) where
-  pub given-first : (a b : Number) (r : Call) → a ≡ Wrong → r ≡ noCall → r ≡ given command a b
+  pub given_first : (a b : Number) (r : Call) → a ≡ Wrong → r ≡ no_call → r ≡ given command a b
   unfolding given
-  given-first a b r e h = rw e h
+  given_first a b r e h = rw e h
 
-  pub given-second : (a b : Number) (x : ℕ) (r : Call) → a ≡ Is x → b ≡ Wrong → r ≡ noCall → r ≡ given command a b
+  pub given_second : (a b : Number) (x : ℕ) (r : Call) → a ≡ Is x → b ≡ Wrong → r ≡ no_call → r ≡ given command a b
   unfolding given
-  given-second a b x r e k h = rw (e, k) h
+  given_second a b x r e k h = rw (e, k) h
 
   pub given_both : (a b : Number) (x y : ℕ) → a ≡ Is x → b ≡ Is y → record { command = command; a = x; b = y } ≡ given command a b
   unfolding given
   given_both a b x y e k = rw (e, k)
 
   -- the numbers that calls answered
-  pub given-one : (a a' b : Number) (r : Call) → r ≡ given command a b → a ≡ a' → r ≡ given command a' b
-  given-one a a' b r h e = rw e at h
+  pub given_one : (a a' b : Number) (r : Call) → r ≡ given command a b → a ≡ a' → r ≡ given command a' b
+  given_one a a' b r h e = rw e at h
 
-  pub given-two : (a a' b b' : Number) (r : Call) → r ≡ given command a b → a ≡ a' → b ≡ b' → r ≡ given command a' b'
-  given-two a a' b b' r h e k = rw (e, k) at h
+  pub given_two : (a a' b b' : Number) (r : Call) → r ≡ given command a b → a ≡ a' → b ≡ b' → r ≡ given command a' b'
+  given_two a a' b b' r h e k = rw (e, k) at h
 
 -- ---- a line of three words or more
 
 module _ (name a words : List ℕ) (r : Call) (b : Bool) (is-it : b ≡ is name (characters "burst")) where
-  pub more-burst : (x y : Number) → b ≡ true → x ≡ decimal a 66 → y ≡ pairsBehind words → r ≡ given Burst x y → r ≡ withMore name a words
-  unfolding withMore
-  more-burst x y t e k h = rw (← is-it, t, ← e, ← k) h
+  pub more_burst : (x y : Number) → b ≡ true → x ≡ decimal a 66 → y ≡ pairs_behind words → r ≡ given Burst x y → r ≡ with_more name a words
+  unfolding with_more
+  more_burst x y t e k h = rw (← is-it, t, ← e, ← k) h
 
   module _ (t : b ≡ false) (s : Bool) (e : s ≡ spaced words) where
-    pub more-none : s ≡ true → r ≡ noCall → r ≡ withMore name a words
-    unfolding withMore
-    more-none t₂ h = rw (← is-it, t, ← e, t₂) h
+    pub more_none : s ≡ true → r ≡ no_call → r ≡ with_more name a words
+    unfolding with_more
+    more_none t₂ h = rw (← is-it, t, ← e, t₂) h
 
-    pub more-two : s ≡ false → r ≡ withTwo name a words → r ≡ withMore name a words
-    unfolding withMore
-    more-two t₂ h = rw (← is-it, t, ← e, t₂) h
+    pub more_two : s ≡ false → r ≡ with_two name a words → r ≡ with_more name a words
+    unfolding with_more
+    more_two t₂ h = rw (← is-it, t, ← e, t₂) h
 
 -- ---- a line
 
-pub line-long : (line : List ℕ) (r : Call) → 4096 < length line → r ≡ noCall → r ≡ call_of line
+pub line_long : (line : List ℕ) (r : Call) → 4096 < length line → r ≡ no_call → r ≡ call_of line
 unfolding call_of
-line-long line r l h = rw (lt-ltb 4096 (length line) l) h
+line_long line r l h = rw (lt-ltb 4096 (length line) l) h
 
 module _ (line : List ℕ) (r : Call) (s : Bool) (l : length line ≤ 4096) (is : s ≡ spaced line) where
-  pub line-alone : not s ≡ true → r ≡ alone line → r ≡ call_of line
+  pub line_alone : not s ≡ true → r ≡ alone line → r ≡ call_of line
   unfolding call_of
-  line-alone t h = rw (le-ltb 4096 (length line) l, said-not (spaced line) s true is t) h
+  line_alone t h = rw (le-ltb 4096 (length line) l, said_not (spaced line) s true is t) h
 
   module _ (behind : List ℕ) (t : not s ≡ false) (cut : behind ≡ rest line) (s₂ : Bool) (is₂ : s₂ ≡ spaced behind) where
-    pub line-one : (name : List ℕ) → not s₂ ≡ true → name ≡ first line → r ≡ withOne name behind → r ≡ call_of line
+    pub line_one : (name : List ℕ) → not s₂ ≡ true → name ≡ first line → r ≡ with_one name behind → r ≡ call_of line
     unfolding call_of
-    line-one name t₂ n h =
-        rw (le-ltb 4096 (length line) l, said-not (spaced line) s false is t, ← cut, said-not (spaced behind) s₂ true is₂ t₂, ← n) h
+    line_one name t₂ n h =
+        rw (le-ltb 4096 (length line) l, said_not (spaced line) s false is t, ← cut, said_not (spaced behind) s₂ true is₂ t₂, ← n) h
 
-    pub line-more : (name word words : List ℕ) → not s₂ ≡ false → name ≡ first line → word ≡ first behind → words ≡ rest behind → r ≡ withMore name word words
+    pub line_more : (name word words : List ℕ) → not s₂ ≡ false → name ≡ first line → word ≡ first behind → words ≡ rest behind → r ≡ with_more name word words
         → r ≡ call_of line
     unfolding call_of
-    line-more name word words t₂ n w cut₂ h =
+    line_more name word words t₂ n w cut₂ h =
         rw (
           le-ltb 4096 (length line) l,
-          said-not (spaced line) s false is t,
+          said_not (spaced line) s false is t,
           ← cut,
-          said-not (spaced behind) s₂ false is₂ t₂,
+          said_not (spaced behind) s₂ false is₂ t₂,
           ← n,
           ← w,
           ← cut₂,

@@ -10,10 +10,10 @@ use Rattle.script.specs.Silent.{silent}
 
 -- an empty line says nothing, and of another the first character tells
 module _ (line : List ℕ) where
-  pub silent-empty : length line ≡ 0 → true ≡ silent line
+  pub silent_empty : length line ≡ 0 → true ≡ silent line
   unfolding silent
-  silent-empty e = rw (eq-eqb (length line) 0 e)
+  silent_empty e = rw (eq-eqb (length line) 0 e)
 
-  pub silent-first : (length line ≡ 0 → ⊥) → eqb (get_or line 0 0) 35 ≡ silent line
+  pub silent_first : (length line ≡ 0 → ⊥) → eqb (get_or line 0 0) 35 ≡ silent line
   unfolding silent
-  silent-first e = rw (ne_eqb (length line) 0 e)
+  silent_first e = rw (ne_eqb (length line) 0 e)

@@ -28,17 +28,17 @@ use Rattle.script.specs.declared.Command.TheVariants.{
 use Rattle.script.specs.declared.Call.{Call}
 use Rattle.forms.specs.Numbers.{hexadecimal, decimal}
 use Rattle.forms.specs.Pairs.{byte_count}
-use Rattle.pair_words.specs.PairWords.{pairsBehind}
+use Rattle.pair_words.specs.PairWords.{pairs_behind}
 use Rattle.words.specs.Words.{characters, is, spaced, first, rest}
 
 -- a line that is no call
-abbrev pub noCall : Call
-noCall = record { command = Error; a = 0; b = 0 }
+abbrev pub no_call : Call
+no_call = record { command = Error; a = 0; b = 0 }
 
 -- a command with its numbers, if each is right
 unfoldable pub given : Command → Number → Number → Call
-given command Wrong second = noCall
-given command (Is a) Wrong = noCall
+given command Wrong second = no_call
+given command (Is a) Wrong = no_call
 given command (Is a) (Is b) = record { command = command; a = a; b = b }
 
 -- the place of a number that a command does not take
@@ -57,41 +57,41 @@ alone name =
     if is name (characters "check") then given Check none none else
     if is name (characters "state") then given State none none else
     if is name (characters "counters") then given Counters none none else
-    noCall
+    no_call
 
 -- of two
-unfoldable pub withOne : List ℕ → List ℕ → Call
-withOne name a =
+unfoldable pub with_one : List ℕ → List ℕ → Call
+with_one name a =
     if is name (characters "lend") then given Lend (decimal a 65_544) none else
     if is name (characters "read") then given Read (hexadecimal a) none else
     if is name (characters "grant") then given Grant (hexadecimal a) none else
     if is name (characters "frame") then given Frame (byte_count a) none else
     if is name (characters "send") then given Send (decimal a 65_536) none else
     if is name (characters "show") then given Show (hexadecimal a) none else
-    noCall
+    no_call
 
 -- of three
-unfoldable pub withTwo : List ℕ → List ℕ → List ℕ → Call
-withTwo name a b =
+unfoldable pub with_two : List ℕ → List ℕ → List ℕ → Call
+with_two name a b =
     if is name (characters "new") then given New (hexadecimal a) (decimal b any) else
     if is name (characters "write") then given Write (hexadecimal a) (hexadecimal b) else
     if is name (characters "run") then given Run (decimal a any) (decimal b 65_536) else
     if is name (characters "ring") then given Ring (decimal a any) (hexadecimal b) else
     if is name (characters "poke") then given Poke (hexadecimal a) (byte_count b) else
     if is name (characters "peek") then given Peek (hexadecimal a) (decimal b 65_536) else
-    noCall
+    no_call
 
 -- of three or more: only `burst` takes more, the pairs behind its BYTES, and its ROOM is "at most 66"
-unfoldable pub withMore : List ℕ → List ℕ → List ℕ → Call
-withMore name a words =
-    if is name (characters "burst") then given Burst (decimal a 66) (pairsBehind words) else
-    if spaced words then noCall else
-    withTwo name a words
+unfoldable pub with_more : List ℕ → List ℕ → List ℕ → Call
+with_more name a words =
+    if is name (characters "burst") then given Burst (decimal a 66) (pairs_behind words) else
+    if spaced words then no_call else
+    with_two name a words
 
 -- a line of at most 4,096 characters, by its words
 unfoldable pub call_of : List ℕ → Call
 call_of line =
-    if ltb 4096 (length line) then noCall else
+    if ltb 4096 (length line) then no_call else
     if not (spaced line) then alone line else
-    if not (spaced (rest line)) then withOne (first line) (rest line) else
-    withMore (first line) (first (rest line)) (rest (rest line))
+    if not (spaced (rest line)) then with_one (first line) (rest line) else
+    with_more (first line) (first (rest line)) (rest (rest line))

@@ -1,7 +1,7 @@
 // A line of the bench console as a call: the commands, each with its words and limits; and which lines say nothing
 // (docs/CONSOLE.md).
 ghost use Rattle.std.specs.Prelude.{◌≡◌};
-ghost use Rattle.script.specs.Calls.{noCall, given, alone, withOne, withTwo, withMore, call_of};
+ghost use Rattle.script.specs.Calls.{no_call, given, alone, with_one, with_two, with_more, call_of};
 ghost use Rattle.script.specs.Silent.{silent};
 
 use forms::numbers::{Number, decimal, hexadecimal};
@@ -55,7 +55,7 @@ const ROOM: u32 = 65_536;
 const ANSWERS: u32 = 66;
 
 fn no_call() -> Call
-    ensures { result ≡ noCall }
+    ensures { result ≡ no_call }
 {
     Call {
         command: Command::Error,
@@ -106,7 +106,7 @@ fn alone(name: &[u8]) -> Call
 
 // A line of two.
 fn with_one(name: &[u8], a: &[u8]) -> Call
-    ensures { result ≡ withOne name.now a.now }
+    ensures { result ≡ with_one name.now a.now }
 {
     let none = Number::Is(0);
     if is(name, b"lend") {
@@ -132,7 +132,7 @@ fn with_one(name: &[u8], a: &[u8]) -> Call
 
 // A line of three.
 fn with_two(name: &[u8], a: &[u8], b: &[u8]) -> Call
-    ensures { result ≡ withTwo name.now a.now b.now }
+    ensures { result ≡ with_two name.now a.now b.now }
 {
     if is(name, b"new") {
         return given(Command::New, hexadecimal(a), decimal(b, ANY));
@@ -157,7 +157,7 @@ fn with_two(name: &[u8], a: &[u8], b: &[u8]) -> Call
 
 // A line of three or more.
 fn with_more(name: &[u8], a: &[u8], words: &[u8]) -> Call
-    ensures { result ≡ withMore name.now a.now words.now }
+    ensures { result ≡ with_more name.now a.now words.now }
 {
     if is(name, b"burst") {
         return given(Command::Burst, decimal(a, ANSWERS), pairs_behind(words));

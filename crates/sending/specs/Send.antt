@@ -3,12 +3,12 @@
 use Rattle.std.specs.Prelude.{ℕ, Bool, List, eqb, length}
 use Rattle.rules.specs.Choice.{if◌then◌else◌}
 use Rattle.memory.specs.Memory.{store}
-use Rattle.descriptor.specs.Descriptor.{nextEnabled, nextWord}
-use Rattle.packet_status.specs.PacketStatus.{withPacketStatus}
+use Rattle.descriptor.specs.Descriptor.{next_enabled, next_word}
+use Rattle.packet_status.specs.PacketStatus.{with_packet_status}
 use Rattle.registers.specs.declared.Registers.{Registers}
 use Rattle.sending.specs.declared.Sent.{Sent}
-use Rattle.outcomes.specs.Outcomes.{txRefused, txAdvanced}
-use Rattle.sending.specs.Sending.{sendNumber, wireAt}
+use Rattle.outcomes.specs.Outcomes.{tx_refused, tx_advanced}
+use Rattle.sending.specs.Sending.{send_number, wire_at}
 
 -- what a single send gives: its number, the registers, the memory and the output that it leaves, and the bytes put there
 pub record Sending : Type 0 where
@@ -31,20 +31,20 @@ refused n r m out = record { number = n; registers = r; memory = m; output = out
 abbrev pub sent : ℕ → Registers → ℕ → List ℕ → List ℕ → Sending
 sent base r place m out = record {
   number = 0;
-  registers = txAdvanced r (nextEnabled base m place) (nextWord base m place);
-  memory = withPacketStatus base m place 0;
-  output = store out 0 (wireAt base m place);
-  count = length (wireAt base m place);
+  registers = tx_advanced r (next_enabled base m place) (next_word base m place);
+  memory = with_packet_status base m place 0;
+  output = store out 0 (wire_at base m place);
+  count = length (wire_at base m place);
 }
 
 -- what a single send leaves, by its number: 0 sends
-abbrev pub sentBy : ℕ → Registers → ℕ → List ℕ → List ℕ → ℕ → Sending
-sentBy base r place m out n = if eqb n 0 then sent base r place m out else refused n (txRefused n r) m out
+abbrev pub sent_by : ℕ → Registers → ℕ → List ℕ → List ℕ → ℕ → Sending
+sent_by base r place m out n = if eqb n 0 then sent base r place m out else refused n (tx_refused n r) m out
 
 -- the engine runs or not, and its place
-unfoldable pub sendAt : ℕ → ℕ → Registers → Bool → ℕ → List ℕ → List ℕ → Sending
-sendAt base window r running place m out =
-    sentBy base r place m out (sendNumber base window running place m (length out))
+unfoldable pub send_at : ℕ → ℕ → Registers → Bool → ℕ → List ℕ → List ℕ → Sending
+send_at base window r running place m out =
+    sent_by base r place m out (send_number base window running place m (length out))
 
 unfoldable pub send : ℕ → ℕ → Registers → List ℕ → List ℕ → Sending
-send base window r m out = sendAt base window r r.tx.running r.tx.place m out
+send base window r m out = send_at base window r r.tx.running r.tx.place m out

@@ -1,12 +1,12 @@
 // The number of a single send.
 ghost use Rattle.std.specs.Prelude.{◌≡◌};
-ghost use Rattle.sending.specs.Sending.{sendNumber};
+ghost use Rattle.sending.specs.Sending.{send_number};
 
 use engine::Engine;
 
 // 11, 9, 3, 7 for the descriptor, 8, 7 for the buffer, 12, or 0.
 pub(crate) fn number(base: u32, window: u32, tx: Engine, m: &[u8], room: usize) -> u32
-    ensures { result ≡ sendNumber base window tx.running tx.place m.now room }
+    ensures { result ≡ send_number base window tx.running tx.place m.now room }
 {
     if !window::lent(window, m) {
         return answer::LENT_LENGTH;

@@ -3,7 +3,7 @@ use Rattle.std.specs.Prelude.{ℕ, List, ◌++◌, take, drop}
 use Rattle.event.specs.Walk.{walk}
 use Rattle.event.specs.declared.Found.{Found}
 use Rattle.calls.specs.Calls.{Bench}
-use Rattle.playback.specs.Playing.{benchOf, actAs, play}
+use Rattle.playback.specs.Playing.{bench_of, act_as, play}
 use Rattle.day_lines.specs.declared.Day.{Day}
 
 pub record Left : Type 0 where
@@ -11,12 +11,12 @@ pub record Left : Type 0 where
   pub output : List ℕ
 
 abbrev pub left : Day → List ℕ → List ℕ → Left
-left day memory output = record { bench = benchOf day.device memory; output = output }
+left day memory output = record { bench = bench_of day.device memory; output = output }
 
 -- an event as the code found it
 abbrev pub next : Left → List ℕ → Found → Left
 next l list found =
-    let a = actAs l.bench l.output list found in record { bench = a.bench; output = a.output }
+    let a = act_as l.bench l.output list found in record { bench = a.bench; output = a.output }
 
 -- all events: those of the day that is played
 unfoldable pub shown : Left → List ℕ → Left
@@ -24,7 +24,7 @@ shown l list =
     let p = play l.bench l.output (walk list).events in record { bench = p.bench; output = p.output }
 
 -- over the bytes that are lent of the memory; the others stay as they are
-unfoldable pub shownOver : Day → List ℕ → ℕ → List ℕ → List ℕ → Left
-shownOver day memory lent output list =
+unfoldable pub shown_over : Day → List ℕ → ℕ → List ℕ → List ℕ → Left
+shown_over day memory lent output list =
     let l = shown (left day (take lent memory) output) list in
-    record { bench = benchOf l.bench.device (l.bench.memory ++ drop lent memory); output = l.output }
+    record { bench = bench_of l.bench.device (l.bench.memory ++ drop lent memory); output = l.output }

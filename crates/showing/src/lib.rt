@@ -2,7 +2,7 @@
 // the day that is played.
 ghost use Rattle.std.specs.Prelude.{◌≡◌, drop};
 ghost use Rattle.event.specs.Front.{front, found};
-ghost use Rattle.showing.specs.Showing.{left, next, shown, shownOver};
+ghost use Rattle.showing.specs.Showing.{left, next, shown, shown_over};
 
 use day_lines::Day;
 
@@ -53,7 +53,7 @@ pub fn all_lent(
     output: &mut [u8],
     text: &mut [u8],
 ) -> Day
-    ensures { left result memory.new output.new ≡ shownOver begun memory.old lent output.old events.now }
+    ensures { left result memory.new output.new ≡ shown_over begun memory.old lent output.old events.now }
 {
     let k = commands::within(lent, memory.len());
     all(begun, events, &mut memory[..k], output, text)

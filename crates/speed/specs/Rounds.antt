@@ -1,6 +1,6 @@
 -- What the benchmark times: rounds of a call, each given back the descriptor that the last one used up. Assumes nothing.
 use Rattle.std.specs.Prelude.{ℕ, zero, suc, ◌+◌, List}
-use Rattle.packet_status.specs.PacketStatus.{withPacketStatus, grantedStatus}
+use Rattle.packet_status.specs.PacketStatus.{with_packet_status, granted_status}
 use Rattle.enet.specs.declared.Enet.{Enet}
 use Rattle.enet.specs.Device.{Outcome}
 use Rattle.enet.specs.Frames.{grant, receive}
@@ -10,11 +10,11 @@ use Rattle.timing.specs.Timing.{passed, Received, rounds}
 -- ---- frames in
 
 -- the descriptor at address 0 is granted, and the frame comes in
-unfoldable pub receiveRound : Enet → List ℕ → List ℕ → Outcome
-receiveRound d m f = let g = grant d m 0 in receive g.device g.memory f
+unfoldable pub receive_round : Enet → List ℕ → List ℕ → Outcome
+receive_round d m f = let g = grant d m 0 in receive g.device g.memory f
 
-abbrev pub receiveRounds : ℕ → ℕ → Enet → List ℕ → List ℕ → Received
-receiveRounds left taken d m f = rounds (λ d m. receiveRound d m f) left taken d m
+abbrev pub receive_rounds : ℕ → ℕ → Enet → List ℕ → List ℕ → Received
+receive_rounds left taken d m f = rounds (λ d m. receive_round d m f) left taken d m
 
 -- ---- frames out
 
@@ -28,10 +28,10 @@ abbrev pub transmitted : ℕ → List ℕ → List ℕ → Transmitted
 transmitted n m out = record { gone = n; memory = m; output = out }
 
 -- the firmware writes VALID into the descriptor at address 0, and one frame goes out
-unfoldable pub sendRound : Enet → List ℕ → List ℕ → Sending
-sendRound d m out = send d (withPacketStatus 0 m 0 grantedStatus) out
+unfoldable pub send_round : Enet → List ℕ → List ℕ → Sending
+send_round d m out = send d (with_packet_status 0 m 0 granted_status) out
 
-unfoldable pub sendRounds : ℕ → ℕ → Enet → List ℕ → List ℕ → Transmitted
-sendRounds zero gone d m out = transmitted gone m out
-sendRounds (suc left) gone d m out =
-    let s = sendRound d m out in sendRounds left (gone + passed s.number) s.device s.memory s.output
+unfoldable pub send_rounds : ℕ → ℕ → Enet → List ℕ → List ℕ → Transmitted
+send_rounds zero gone d m out = transmitted gone m out
+send_rounds (suc left) gone d m out =
+    let s = send_round d m out in send_rounds left (gone + passed s.number) s.device s.memory s.output

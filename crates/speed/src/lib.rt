@@ -3,14 +3,14 @@
 ghost use Rattle.std.specs.Prelude.{◌≡◌};
 ghost use Rattle.enet.specs.Device.{outcome};
 ghost use Rattle.enet.specs.Send.{sending};
-ghost use Rattle.timing.specs.Timing.{bench, windowOf, received};
-ghost use Rattle.speed.specs.Rounds.{receiveRound, receiveRounds, transmitted, sendRound, sendRounds};
+ghost use Rattle.timing.specs.Timing.{bench, window_of, received};
+ghost use Rattle.speed.specs.Rounds.{receive_round, receive_rounds, transmitted, send_round, send_rounds};
 
 use enet::{Answered, Enet, Sent};
 
 // Grants the descriptor at address 0, and brings the frame in.
 fn receive_round(device: Enet, memory: &mut [u8], frame: &[u8]) -> Answered
-    ensures { outcome result memory.new ≡ receiveRound device memory.old frame.now }
+    ensures { outcome result memory.new ≡ receive_round device memory.old frame.now }
 {
     let granted = device.grant(memory, 0).device;
     granted.receive(memory, frame)
@@ -19,7 +19,7 @@ fn receive_round(device: Enet, memory: &mut [u8], frame: &[u8]) -> Answered
 // Rounds of frames in; how many were taken.
 #[unsafe(no_mangle)]
 pub extern "C" fn speed_receive(memory: &mut [u8], frame: &[u8], rounds: u32) -> u32
-    ensures { received result memory.new ≡ receiveRounds rounds 0 (bench (windowOf memory.old)) memory.old frame.now }
+    ensures { received result memory.new ≡ receive_rounds rounds 0 (bench (window_of memory.old)) memory.old frame.now }
 {
     let mut device = timing::bench((memory.len() % 0x1_0000_0000) as u32);
     let mut taken = 0;
@@ -35,7 +35,7 @@ pub extern "C" fn speed_receive(memory: &mut [u8], frame: &[u8], rounds: u32) ->
 
 // Writes VALID into the descriptor at address 0, as the firmware does, and sends its frame.
 fn send_round(device: Enet, memory: &mut [u8], output: &mut [u8]) -> Sent
-    ensures { sending result memory.new output.new ≡ sendRound device memory.old output.old }
+    ensures { sending result memory.new output.new ≡ send_round device memory.old output.old }
 {
     packet_status::set_packet_status(0, memory, 0, packet_status::VALID);
     device.send(memory, output)
@@ -44,7 +44,7 @@ fn send_round(device: Enet, memory: &mut [u8], output: &mut [u8]) -> Sent
 // Rounds of frames out; how many were sent.
 #[unsafe(no_mangle)]
 pub extern "C" fn speed_send(memory: &mut [u8], output: &mut [u8], rounds: u32) -> u32
-    ensures { transmitted result memory.new output.new ≡ sendRounds rounds 0 (bench (windowOf memory.old)) memory.old output.old }
+    ensures { transmitted result memory.new output.new ≡ send_rounds rounds 0 (bench (window_of memory.old)) memory.old output.old }
 {
     let mut device = timing::bench((memory.len() % 0x1_0000_0000) as u32);
     let mut gone = 0;

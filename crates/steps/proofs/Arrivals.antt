@@ -11,16 +11,16 @@ use lib.Dec.{eqb, ltb}
 use lib.ListN.{length}
 use borrow.Author.Tests.{lt-ltb, le-ltb, ne_eqb}
 use Rattle.rules.specs.Choice.{if◌then◌else◌}
-use Rattle.reason.proofs.Laws.{status-fits, status-returned}
-use Rattle.frame.proofs.Passed.{passed-short}
+use Rattle.reason.proofs.Laws.{status_fits, status_returned}
+use Rattle.frame.proofs.Passed.{passed_short}
 use Rattle.enet.specs.Device.{Outcome}
-use Rattle.calls.specs.Calls.{Bench, receiveCall, call}
+use Rattle.calls.specs.Calls.{Bench, receive_call, call}
 use Rattle.steps.specs.Steps.{counted, brings}
 use Rattle.steps.proofs.Places.{RingSound}
-use Rattle.steps.proofs.Held.{held-deliver}
+use Rattle.steps.proofs.Held.{held_deliver}
 use Rattle.steps.proofs.Invariant.{Inv, keeps}
-use Rattle.steps.proofs.Now.{statusOf, deviceAfter, memoryAfter, turned-away, lost-now, taken-now}
-use Rattle.steps.proofs.Same.{same-but-interrupts, same-ring}
+use Rattle.steps.proofs.Now.{status_of, device_after, memory_after, turned_away_lem, lost_now, taken_now}
+use Rattle.steps.proofs.Same.{same_but_interrupts, same_ring}
 
 module _ (passes : List ℕ → Bool) where
   -- v were delivered and g grants made; now f comes
@@ -39,13 +39,13 @@ module _ (b : Bench) (n first : ℕ) (sound : RingSound b n first) where
   -- ---- one frame
 
   module _ (c : Bench) (gs : List ℕ) (v : ℕ) (i : InvB c gs v) (f : List ℕ) where
-    delivers : brings b f ≡ 0 → v < length gs → Inv b n first sound (deviceAfter b first c.device v) (memoryAfter b first c.memory v f) gs (v + 1)
-    unfolding deviceAfter memoryAfter
+    delivers : brings b f ≡ 0 → v < length gs → Inv b n first sound (device_after b first c.device v) (memory_after b first c.memory v f) gs (v + 1)
+    unfolding device_after memory_after
     delivers pass left =
-        let short = passed-short _ f pass in
+        let short = passed_short _ f pass in
         let held =
-        held-deliver b n first sound c.memory v (length gs) f (statusOf b f) i.held left short
-        (status-fits _ (length f) (omega arith)) (status-returned _ (length f) (omega arith)) in
+        held_deliver b n first sound c.memory v (length gs) f (status_of b f) i.held left short
+        (status_fits _ (length f) (omega arith)) (status_returned _ (length f) (omega arith)) in
         let x = i.fixed in
         rw add-one (record {
           fixed = record {
@@ -63,32 +63,32 @@ module _ (b : Bench) (n first : ℕ) (sound : RingSound b n first) where
 
     -- it keeps the invariant, and is delivered exactly if it passes and a grant is left
     pub record Came : Type 0 where
-      pub came : InvB (call c (receiveCall f)).bench gs (counted v (call c (receiveCall f)).number)
-      pub count : counted v (call c (receiveCall f)).number ≡ tick (passes b) v (length gs) f
+      pub came : InvB (call c (receive_call f)).bench gs (counted v (call c (receive_call f)).number)
+      pub count : counted v (call c (receive_call f)).number ≡ tick (passes b) v (length gs) f
 
-    comes-by : Dec (brings b f ≡ 0) → Dec (v < length gs) → Came
-    comes-by (no h) k =
-        let r = turned-away i f h in
+    comes_by : Dec (brings b f ≡ 0) → Dec (v < length gs) → Came
+    comes_by (no h) k =
+        let r = turned_away_lem i f h in
         let q = ne_eqb (brings b f) 0 h in
         record { came = rw (r, q) i; count = rw (r, q) }
-    comes-by (yes h) (no k) =
+    comes_by (yes h) (no k) =
         let o = i.held.order in
-        let r = lost-now i f h (omega arith) in
-        let lost = keeps (same-but-interrupts c.device _ _ _) (same-ring b n first sound c.memory) i in
+        let r = lost_now i f h (omega arith) in
+        let lost = keeps (same_but_interrupts c.device _ _ _) (same_ring b n first sound c.memory) i in
         record { came = rw r lost; count = rw (r, h, le-ltb v (length gs) (omega arith)) }
-    comes-by (yes h) (yes k) =
-        let r = taken-now i f h k in
+    comes_by (yes h) (yes k) =
+        let r = taken_now i f h k in
         record { came = rw r (delivers h k); count = rw (r, h, lt-ltb v (length gs) k) }
 
     pub comes : Came
-    comes = comes-by (ℕ_discrete (brings b f) 0) (dec_lt v (length gs))
+    comes = comes_by (ℕ_discrete (brings b f) 0) (dec_lt v (length gs))
 
-    lost-if : brings b f ≡ 0 → (call c (receiveCall f)).number ≡ 8 → Dec (v < length gs) → v ≡ length gs
-    lost-if pass a (yes k) = let w : ◌≡◌ {A = ℕ} 0 8 = rw (taken-now i f pass k) at a in absurd (omega arith)
-    lost-if pass a (no k) = let o = i.held.order in omega arith
+    lost_if : brings b f ≡ 0 → (call c (receive_call f)).number ≡ 8 → Dec (v < length gs) → v ≡ length gs
+    lost_if pass a (yes k) = let w : ◌≡◌ {A = ℕ} 0 8 = rw (taken_now i f pass k) at a in absurd (omega arith)
+    lost_if pass a (no k) = let o = i.held.order in omega arith
 
-    pub lost : brings b f ≡ 0 → ((call c (receiveCall f)).number ≡ 8) ↔ (v ≡ length gs)
-    lost pass = (λ a. lost-if pass a (dec_lt v (length gs)), λ e. ap (λ (o : Outcome). o.number) (lost-now i f pass e))
+    pub lost : brings b f ≡ 0 → ((call c (receive_call f)).number ≡ 8) ↔ (v ≡ length gs)
+    lost pass = (λ a. lost_if pass a (dec_lt v (length gs)), λ e. ap (λ (o : Outcome). o.number) (lost_now i f pass e))
 
-    pub otherwise : brings b f ≡ 0 → ¬ (v ≡ length gs) → (call c (receiveCall f)).number ≡ 0
-    otherwise pass ne = let o = i.held.order in ap (λ (o : Outcome). o.number) (taken-now i f pass (omega arith))
+    pub otherwise : brings b f ≡ 0 → ¬ (v ≡ length gs) → (call c (receive_call f)).number ≡ 0
+    otherwise pass ne = let o = i.held.order in ap (λ (o : Outcome). o.number) (taken_now i f pass (omega arith))

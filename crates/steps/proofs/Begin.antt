@@ -3,20 +3,20 @@ use Prim.Native.Nat.{ℕ}
 use mathlib.Core.Path.{refl, sym, ◌∙◌}
 use native.Mathlib.Omega.{arith}
 use native.Mathlib.Nat.{not-suc-le-zero}
-use Rattle.packet_status.specs.PacketStatus.{packetStatus, granted}
-use Rattle.links.proofs.Follow.{follow-zero}
+use Rattle.packet_status.specs.PacketStatus.{packet_status, granted}
+use Rattle.links.proofs.Follow.{follow_zero}
 use Rattle.calls.specs.Calls.{Bench}
 use Rattle.steps.specs.Steps.{begin}
 use Rattle.steps.specs.Start.{Start}
-use Rattle.steps.proofs.Places.{descAt}
+use Rattle.steps.proofs.Places.{desc_at}
 use Rattle.steps.proofs.Invariant.{InvP}
 
-pub begin-holds : (b : Bench) (n first : ℕ) (st : Start b n first) → InvP b n first st.ring (begin b)
-unfolding granted packetStatus descAt
-begin-holds b n first st =
+pub begin_holds : (b : Bench) (n first : ℕ) (st : Start b n first) → InvP b n first st.ring (begin b)
+unfolding granted packet_status desc_at
+begin_holds b n first st =
     record {
       fixed = record { base = refl; window = refl; filter = refl; receiving = st.receiving; polling = st.polling; sending = st.sending };
-      place = st.place ∙ sym (follow-zero b.device.base b.memory first);
+      place = st.place ∙ sym (follow_zero b.device.base b.memory first);
       held =
           record {
             long = refl;

@@ -9,7 +9,7 @@ use Rattle.enet.specs.declared.Enet.{Enet}
 use Rattle.receiving.specs.Receiving.{delivered}
 use Rattle.calls.specs.Calls.{Bench}
 use Rattle.steps.specs.Steps.{Progress}
-use Rattle.steps.specs.Start.{inOrder}
+use Rattle.steps.specs.Start.{in_order}
 use Rattle.steps.proofs.Held.{Held, SameRing, held_same}
 use Rattle.steps.proofs.Places.{RingSound}
 
@@ -28,9 +28,9 @@ module _ (b : Bench) (n first : ℕ) (sound : RingSound b n first) where
   -- what it has done, part by part
   pub record Inv (d : Enet) (m gs : List ℕ) (v : ℕ) : Type 0 where
     pub fixed : Fixed b d.base d.window d.registers.filter d.registers.rx.running d.registers.rx.polling d.registers.tx.running
-    pub place : d.registers.rx.place ≡ inOrder b first v
+    pub place : d.registers.rx.place ≡ in_order b first v
     pub held : Held b n first sound m v (length gs)
-    pub named : (t : ℕ) → t < length gs → get_or gs t 0 ≡ inOrder b first t
+    pub named : (t : ℕ) → t < length gs → get_or gs t 0 ≡ in_order b first t
 
   abbrev pub InvP : Progress → Type 0
   InvP p = Inv p.bench.device p.bench.memory p.grants p.delivered

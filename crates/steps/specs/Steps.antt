@@ -2,20 +2,20 @@
 use Rattle.std.specs.Prelude.{ℕ, ◌+◌, ◌≤◌, ◌<◌, List, [], ◌∷◌, ◌++◌, eqb, length}
 use Rattle.rules.specs.Choice.{if◌then◌else◌}
 use Rattle.memory.specs.Memory.{store}
-use Rattle.frame.specs.Frame.{frameNumber}
+use Rattle.frame.specs.Frame.{frame_number}
 use Rattle.calls.specs.Calls.{Bench, Call, Result, answered, call}
 use Rattle.calls.specs.Handed.{handed}
 
 -- "A step is a public call on the bench .. or a write by the firmware of any values to window bytes": bytes in a row, from
 -- an offset into the window on. "Making a new bench is no step."
 pub data Step : Type 0 where
-  publicCall : Call → Step
-  firmwareWrite : (at : ℕ) (bytes : List ℕ) → Step
+  public_call : Call → Step
+  firmware_write : (at : ℕ) (bytes : List ℕ) → Step
 
 -- what a step gives, and the bench that it leaves
 abbrev pub step : Bench → Step → Result
-step b (publicCall c) = call b c
-step b (firmwareWrite at bytes) = answered 0 (record { device = b.device; memory = store b.memory at bytes })
+step b (public_call c) = call b c
+step b (firmware_write at bytes) = answered 0 (record { device = b.device; memory = store b.memory at bytes })
 
 -- ---- what a step does
 
@@ -26,33 +26,33 @@ done [] n = []
 done (x ∷ xs) n = if eqb n 0 then x ∷ xs else []
 
 -- "A grant is a grant call that answers 0": the descriptors that a step with the answer n grants
-abbrev pub grantsOf : Step → ℕ → List ℕ
-grantsOf (publicCall c) n = done (handed c).grants n
-grantsOf (firmwareWrite at bytes) n = []
+abbrev pub grants_of : Step → ℕ → List ℕ
+grants_of (public_call c) n = done (handed c).grants n
+grants_of (firmware_write at bytes) n = []
 
 -- the registers that it writes
-abbrev pub registersOf : Step → ℕ → List ℕ
-registersOf (publicCall c) n = done (handed c).registers n
-registersOf (firmwareWrite at bytes) n = []
+abbrev pub registers_of : Step → ℕ → List ℕ
+registers_of (public_call c) n = done (handed c).registers n
+registers_of (firmware_write at bytes) n = []
 
 -- the firmware writes the byte at i
 abbrev pub Writes : Step → ℕ → Type 0
-Writes (publicCall c) i = ⊥
-Writes (firmwareWrite at bytes) i = (at ≤ i) × (i < at + length bytes)
+Writes (public_call c) i = ⊥
+Writes (firmware_write at bytes) i = (at ≤ i) × (i < at + length bytes)
 
 -- the frames that a step brings, "in order, refused ones too". 02, Wish 1: "a burst stands in its list as one receive for each
 -- pair inside the store, a refused burst as none"
-abbrev pub framesOf : Step → List (List ℕ)
-framesOf (publicCall c) = (handed c).frames
-framesOf (firmwareWrite at bytes) = []
+abbrev pub frames_of : Step → List (List ℕ)
+frames_of (public_call c) = (handed c).frames
+frames_of (firmware_write at bytes) = []
 
 -- what "its receive answers", for each of these frames
-abbrev pub answersOf : Bench → Step → List ℕ
-answersOf b s = (step b s).answers
+abbrev pub answers_of : Bench → Step → List ℕ
+answers_of b s = (step b s).answers
 
 -- the first of 4, 5 and 6 that a frame's bytes and the registers of a bench bring, or 0
 abbrev pub brings : Bench → List ℕ → ℕ
-brings b frame = frameNumber b.device.registers.filter frame
+brings b frame = frame_number b.device.registers.filter frame
 
 -- ---- how many frames were delivered
 
@@ -61,14 +61,14 @@ abbrev pub counted : ℕ → ℕ → ℕ
 counted v n = if eqb n 0 then v + 1 else v
 
 -- "receive by receive, in order": the count after the last of these receives ..
-abbrev pub countedAll : ℕ → List ℕ → ℕ
-countedAll v [] = v
-countedAll v (n ∷ answers) = countedAll (counted v n) answers
+abbrev pub counted_all : ℕ → List ℕ → ℕ
+counted_all v [] = v
+counted_all v (n ∷ answers) = counted_all (counted v n) answers
 
 -- .. and after each
-abbrev pub countedEach : ℕ → List ℕ → List ℕ
-countedEach v [] = []
-countedEach v (n ∷ answers) = counted v n ∷ countedEach (counted v n) answers
+abbrev pub counted_each : ℕ → List ℕ → List ℕ
+counted_each v [] = []
+counted_each v (n ∷ answers) = counted v n ∷ counted_each (counted v n) answers
 
 -- ---- a list of steps
 
@@ -83,14 +83,14 @@ pub record Progress : Type 0 where
 abbrev pub begin : Bench → Progress
 begin b = record { bench = b; grants = []; delivered = 0 }
 
-abbrev pub afterStep : Progress → Step → Progress
-afterStep p s = record {
+abbrev pub after_step : Progress → Step → Progress
+after_step p s = record {
   bench = (step p.bench s).bench;
-  grants = p.grants ++ grantsOf s (step p.bench s).number;
-  delivered = countedAll p.delivered (answersOf p.bench s);
+  grants = p.grants ++ grants_of s (step p.bench s).number;
+  delivered = counted_all p.delivered (answers_of p.bench s);
 }
 
 -- a step "takes the state and memory that the step before left"
-unfoldable pub afterSteps : Progress → List Step → Progress
-afterSteps p [] = p
-afterSteps p (s ∷ steps) = afterSteps (afterStep p s) steps
+unfoldable pub after_steps : Progress → List Step → Progress
+after_steps p [] = p
+after_steps p (s ∷ steps) = after_steps (after_step p s) steps

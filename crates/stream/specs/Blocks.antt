@@ -1,7 +1,7 @@
 -- 02, Wish 4: "A trace is blocks of 512 bytes". Assumes nothing.
 use Rattle.std.specs.Prelude.{ℕ, zero, suc, ◌+◌, ◌*◌, ◌/◌, ◌<◌, ◌≡◌, Bool, List, eqb, length, take, drop}
 use Rattle.rules.specs.Choice.{if◌then◌else◌}
-use Rattle.block.specs.Faults.{blockFault}
+use Rattle.block.specs.Faults.{block_fault}
 use Rattle.stream.specs.declared.Fault.{Fault}
 
 -- the block at place k; at the end it may be short
@@ -9,23 +9,23 @@ unfoldable pub block_at : List ℕ → ℕ → List ℕ
 block_at t k = take 512 (drop (512 * k) t)
 
 -- how many there are; "an empty file is a bad block 0 by its length"
-unfoldable pub blockCount : ℕ → ℕ
-blockCount bytes = if eqb bytes 0 then 1 else (bytes + 511) / 512
+unfoldable pub block_count : ℕ → ℕ
+block_count bytes = if eqb bytes 0 then 1 else (bytes + 511) / 512
 
 -- "only the last may be part-filled"
 unfoldable pub is_last : List ℕ → ℕ → Bool
-is_last t k = eqb (k + 1) (blockCount (length t))
+is_last t k = eqb (k + 1) (block_count (length t))
 
 -- what is wrong with the block at place k by itself, or 0
-unfoldable pub faultAt : List ℕ → ℕ → ℕ
-faultAt t k = blockFault (is_last t k) k (block_at t k)
+unfoldable pub fault_at : List ℕ → ℕ → ℕ
+fault_at t k = block_fault (is_last t k) k (block_at t k)
 
 -- the first of n blocks from place k on that is wrong by itself, and its fault; or the place behind them, and 0
-unfoldable pub firstFault : List ℕ → ℕ → ℕ → Fault
-firstFault t k zero = record { number = 0; block = k }
-firstFault t k (suc n) =
-    if eqb (faultAt t k) 0 then firstFault t (k + 1) n else record { number = faultAt t k; block = k }
+unfoldable pub first_fault : List ℕ → ℕ → ℕ → Fault
+first_fault t k zero = record { number = 0; block = k }
+first_fault t k (suc n) =
+    if eqb (fault_at t k) 0 then first_fault t (k + 1) n else record { number = fault_at t k; block = k }
 
 -- the first n blocks have no fault of their own
 abbrev pub Sound : List ℕ → ℕ → Type 0
-Sound t n = (k : ℕ) → k < n → faultAt t k ≡ 0
+Sound t n = (k : ℕ) → k < n → fault_at t k ≡ 0

@@ -11,14 +11,14 @@ use Rattle.rules.specs.Choice.{if◌then◌else◌}
 use Rattle.rules.proofs.Choices.{by_bool}
 use Rattle.memory.specs.Memory.{store}
 use Rattle.memory.proofs.Laws.{store_out}
-use Rattle.memory.proofs.Stores.{length-store, store-append}
+use Rattle.memory.proofs.Stores.{length_store, store_append}
 use Rattle.text.specs.Text.{Text, written, end_of, put}
 
 -- ---- where text ends
 
-pub end-past : (room at n : ℕ) → room < at → room ≡ end_of room at n
+pub end_past : (room at n : ℕ) → room < at → room ≡ end_of room at n
 unfolding end_of
-end-past room at n h = rw (lt-leb (at + n) room (omega arith))
+end_past room at n h = rw (lt-leb (at + n) room (omega arith))
 
 pub end_short : (room at n : ℕ) → at ≤ room → room - at < n → room ≡ end_of room at n
 unfolding end_of
@@ -32,19 +32,19 @@ module _ (t s t' : List ℕ) (at : ℕ) (e : t' ≡ store t at s) where
   put_of : (end : ℕ) → end ≡ end_of (length t') at (length s) → written end t' ≡ put t at s
   unfolding put
   put_of end h =
-      let l : length t' ≡ length t = ap length e ∙ length-store t at s in
+      let l : length t' ≡ length t = ap length e ∙ length_store t at s in
       rw (h, l, e)
 
-  pub put-past : length t' < at → written (length t') t' ≡ put t at s
-  put-past h = put_of (length t') (end-past (length t') at (length s) h)
+  pub put_past : length t' < at → written (length t') t' ≡ put t at s
+  put_past h = put_of (length t') (end_past (length t') at (length s) h)
 
-  pub put-short : at ≤ length t' → length t' - at < length s → written (length t') t' ≡ put t at s
-  put-short h l = put_of (length t') (end_short (length t') at (length s) h l)
+  pub put_short : at ≤ length t' → length t' - at < length s → written (length t') t' ≡ put t at s
+  put_short h l = put_of (length t') (end_short (length t') at (length s) h l)
 
-  pub put-fits : at ≤ length t' → length s ≤ length t' - at → written (at + length s) t' ≡ put t at s
-  put-fits h l = put_of (at + length s) (end_fits (length t') at (length s) h l)
+  pub put_fits : at ≤ length t' → length s ≤ length t' - at → written (at + length s) t' ≡ put t at s
+  put_fits h l = put_of (at + length s) (end_fits (length t') at (length s) h l)
 
-pub ruleset ways = (put-past, put-short, put-fits)
+pub ruleset ways = (put_past, put_short, put_fits)
 
 -- ---- one text behind another
 
@@ -53,21 +53,21 @@ behind : (a b t : List ℕ) (at : ℕ) → store (store t at a) (end_of (length 
 unfolding end_of
 behind a b t at =
     by_bool (leb (at + length a) (length t))
-    (λ e. rw e (store-append t at (at + length a) a b refl))
+    (λ e. rw e (store_append t at (at + length a) a b refl))
     (λ e.
     let l : length t < at + length a = leb-false (at + length a) (length t) e in
     rw e
-    (sym (store_out (store t at a) (length t) b (omega (arith, length-store t at a)))
-    ∙ store_out (store t at a) (at + length a) b (omega (arith, length-store t at a))
-    ∙ store-append t at (at + length a) a b refl))
+    (sym (store_out (store t at a) (length t) b (omega (arith, length_store t at a)))
+    ∙ store_out (store t at a) (at + length a) b (omega (arith, length_store t at a))
+    ∙ store_append t at (at + length a) a b refl))
 
-end-room : (room k : ℕ) → (if leb (room + k) room then room + k else room) ≡ room
-end-room room zero = by_bool (leb (room + 0) room) (λ e. rw e (omega arith)) (λ e. rw e)
-end-room room (suc k) = rw (lt-leb (room + suc k) room (omega arith))
+end_room : (room k : ℕ) → (if leb (room + k) room then room + k else room) ≡ room
+end_room room zero = by_bool (leb (room + 0) room) (λ e. rw e (omega arith)) (λ e. rw e)
+end_room room (suc k) = rw (lt-leb (room + suc k) room (omega arith))
 
-end-within : (room at n : ℕ) → end_of room at n ≤ room
+end_within : (room at n : ℕ) → end_of room at n ≤ room
 unfolding end_of
-end-within room at n =
+end_within room at n =
     by_bool (leb (at + n) room) (λ e. rw e (leb-true (at + n) room e)) (λ e. rw e (omega arith))
 
 end_more : (room at n k : ℕ) → end_of room (end_of room at n) k ≡ end_of room at (n + k)
@@ -80,38 +80,38 @@ end_more room at n k =
     (λ e.
     let l : room < at + n = leb-false (at + n) room e in
     let f : leb (at + (n + k)) room ≡ false = lt-leb (at + (n + k)) room (omega arith) in
-    rw (e, f) (end-room room k))
+    rw (e, f) (end_room room k))
 
-put-put : (a b t : List ℕ) (at : ℕ) → put (store t at a) (end_of (length t) at (length a)) b ≡ put t at (a ++ b)
+put_put : (a b t : List ℕ) (at : ℕ) → put (store t at a) (end_of (length t) at (length a)) b ≡ put t at (a ++ b)
 unfolding put
-put-put a b t at = rw (length-store t at a, behind a b t at, end_more (length t) at (length a) (length b), length-append a b)
+put_put a b t at = rw (length_store t at a, behind a b t at, end_more (length t) at (length a) (length b), length-append a b)
 
 -- what was written behind a text
-pub put-more : (t t' : List ℕ) (at end : ℕ) (a b : List ℕ) → written end t' ≡ put t at a → put t' end b ≡ put t at (a ++ b)
+pub put_more : (t t' : List ℕ) (at end : ℕ) (a b : List ℕ) → written end t' ≡ put t at a → put t' end b ≡ put t at (a ++ b)
 unfolding put
-put-more t t' at end a b e =
+put_more t t' at end a b e =
     let p : end ≡ end_of (length t) at (length a) = ap (λ (x : Text). x.end) e in
     let q : t' ≡ store t at a = ap (λ (x : Text). x.buffer) e in
-    rw (p, q) (put-put a b t at)
+    rw (p, q) (put_put a b t at)
 
 pub put_then : (t t' : List ℕ) (at end : ℕ) (a b : List ℕ) (x : Text) → written end t' ≡ put t at a → x ≡ put t' end b → x ≡ put t at (a ++ b)
-put_then t t' at end a b x e h = h ∙ put-more t t' at end a b e
+put_then t t' at end a b x e h = h ∙ put_more t t' at end a b e
 
 -- text ends within its buffer
-pub put-within : (t t' : List ℕ) (at end : ℕ) (s : List ℕ) → written end t' ≡ put t at s → end ≤ length t'
+pub put_within : (t t' : List ℕ) (at end : ℕ) (s : List ℕ) → written end t' ≡ put t at s → end ≤ length t'
 unfolding put
-put-within t t' at end s e =
+put_within t t' at end s e =
     let p : end ≡ end_of (length t) at (length s) = ap (λ (x : Text). x.end) e in
     let q : t' ≡ store t at s = ap (λ (x : Text). x.buffer) e in
-    let l : length t' ≡ length t = ap length q ∙ length-store t at s in
-    omega (arith, end-within (length t) at (length s))
+    let l : length t' ≡ length t = ap length q ∙ length_store t at s in
+    omega (arith, end_within (length t) at (length s))
 
 -- no text: it ends where the text before it did, or with the buffer
 module _ (room at end : ℕ) (e : end ≡ min at room) where
-  end-nothing : (b : Bool) → leb (at + 0) room ≡ b → end ≡ (if b then at + 0 else room)
-  end-nothing true h = let f : at + 0 ≤ room = leb-true (at + 0) room h in omega arith
-  end-nothing false h = let f : room < at + 0 = leb-false (at + 0) room h in omega arith
+  end_nothing : (b : Bool) → leb (at + 0) room ≡ b → end ≡ (if b then at + 0 else room)
+  end_nothing true h = let f : at + 0 ≤ room = leb-true (at + 0) room h in omega arith
+  end_nothing false h = let f : room < at + 0 = leb-false (at + 0) room h in omega arith
 
-pub put-nothing : (t : List ℕ) (at end : ℕ) → end ≡ min at (length t) → written end t ≡ put t at []
+pub put_nothing : (t : List ℕ) (at end : ℕ) → end ≡ min at (length t) → written end t ≡ put t at []
 unfolding put end_of store
-put-nothing t at end e = λ j. record { end = end-nothing (length t) at end e (leb (at + 0) (length t)) refl j; buffer = t }
+put_nothing t at end e = λ j. record { end = end_nothing (length t) at end e (leb (at + 0) (length t)) refl j; buffer = t }

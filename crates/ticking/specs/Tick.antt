@@ -2,10 +2,10 @@
 -- memory. Assumes nothing.
 use Rattle.std.specs.Prelude.{ℕ, ◌+◌, Bool, not, ◌&&◌, List, eqb, ltb}
 use Rattle.rules.specs.Choice.{if◌then◌else◌}
-use Rattle.window.specs.Window.{lent, inWindow}
+use Rattle.window.specs.Window.{lent, in_window}
 use Rattle.packet_status.specs.PacketStatus.{granted}
 use Rattle.registers.specs.declared.Registers.{Registers}
-use Rattle.registers.specs.Registers.{raised, txTo}
+use Rattle.registers.specs.Registers.{raised, tx_to}
 use Rattle.ticking.specs.declared.Ticked.{Ticked}
 
 -- a tick's number, the registers and the count that it leaves
@@ -14,11 +14,11 @@ leaves n r count = record { number = n; registers = r; count = count }
 
 -- "if sending runs and its descriptor is in the window and granted"
 unfoldable pub stalled : ℕ → ℕ → Registers → List ℕ → Bool
-stalled base window r m = r.tx.running && inWindow base window r.tx.place 16 && granted base m r.tx.place
+stalled base window r m = r.tx.running && in_window base window r.tx.place 16 && granted base m r.tx.place
 
 -- "A tick .. adds one to a count"; "A tick that counts above the value sets TX_TO and starts it again at 0"
 unfoldable pub counted : Registers → ℕ → Ticked
-counted r count = if ltb r.txtor (count + 1) then leaves 0 (raised r txTo) 0 else leaves 0 r (count + 1)
+counted r count = if ltb r.txtor (count + 1) then leaves 0 (raised r tx_to) 0 else leaves 0 r (count + 1)
 
 -- "A tick (refused only by 11)": row 11, "nothing changed". "value 0 keeps it at 0"; "else clears it"
 unfoldable pub tick : ℕ → ℕ → Registers → ℕ → List ℕ → Ticked
@@ -30,5 +30,5 @@ tick base window r count m =
 
 -- ".. value 0 keeps it at 0, from the write on": the count after a register write, by its number, the offset written and the
 -- value that the time-out register, "offset 48h", then has. Any other write leaves it
-unfoldable pub afterWrite : ℕ → ℕ → ℕ → ℕ → ℕ
-afterWrite n offset value count = if eqb n 0 && eqb offset 0x48 && eqb value 0 then 0 else count
+unfoldable pub after_write : ℕ → ℕ → ℕ → ℕ → ℕ
+after_write n offset value count = if eqb n 0 && eqb offset 0x48 && eqb value 0 then 0 else count

@@ -1,6 +1,6 @@
 // The send time-out (02, Wish 9): a tick, and what a register write does to the count of ticks.
 ghost use Rattle.std.specs.Prelude.{◌≡◌};
-ghost use Rattle.ticking.specs.Tick.{leaves, stalled, counted, tick, afterWrite};
+ghost use Rattle.ticking.specs.Tick.{leaves, stalled, counted, tick, after_write};
 
 use registers::Registers;
 
@@ -79,7 +79,7 @@ pub fn tick(base: u32, window: u32, r: Registers, count: u32, m: &[u8]) -> Ticke
 
 // The count after a register write: its number, the offset written, and the value of the time-out register behind it.
 pub fn after_write(number: u32, offset: u32, value: u32, count: u32) -> u32
-    ensures { result ≡ afterWrite number offset value count }
+    ensures { result ≡ after_write number offset value count }
 {
     if number == answer::DONE {
         if offset == Registers::TXTOR {

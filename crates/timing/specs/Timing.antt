@@ -23,8 +23,8 @@ bench window =
     (write b 0x30 5).device
 
 -- the window that lent memory asks for
-abbrev pub windowOf : List ℕ → ℕ
-windowOf m = length m % 2 ^ 32
+abbrev pub window_of : List ℕ → ℕ
+window_of m = length m % 2 ^ 32
 
 -- 1 for an answer 0
 unfoldable pub passed : ℕ → ℕ

@@ -6,8 +6,8 @@ use Rattle.rules.specs.Choice.{if◌then◌else◌}
 use Rattle.rules.proofs.Choices.{if_yes, if_no, said}
 
 module _ (s r : Bool) (e : r ≡ s) where
-  pub yes-1 : r ≡ true → ◌≡◌ {A = ℕ} 1 (if s then 1 else 0)
-  yes-1 h = if_yes s 1 1 0 (said s r true e h) refl
+  pub yes_1 : r ≡ true → ◌≡◌ {A = ℕ} 1 (if s then 1 else 0)
+  yes_1 h = if_yes s 1 1 0 (said s r true e h) refl
 
-  pub no-0 : r ≡ false → ◌≡◌ {A = ℕ} 0 (if s then 1 else 0)
-  no-0 h = if_no s 0 1 0 (said s r false e h) refl
+  pub no_0 : r ≡ false → ◌≡◌ {A = ℕ} 0 (if s then 1 else 0)
+  no_0 h = if_no s 0 1 0 (said s r false e h) refl

@@ -2,16 +2,16 @@
 // and its length.
 ghost use Rattle.std.specs.Prelude.{◌≡◌};
 ghost use Rattle.rules.specs.Choice.{if◌then◌else◌};
-ghost use Rattle.fcs.specs.CheckSequence.{checkRight};
-ghost use Rattle.filter.specs.Filter.{filterOf};
-ghost use Rattle.address_rule.specs.AddressRule.{addressRule};
+ghost use Rattle.fcs.specs.CheckSequence.{check_right};
+ghost use Rattle.filter.specs.Filter.{filter_of};
+ghost use Rattle.address_rule.specs.AddressRule.{address_rule};
 
 use filter::Filter;
 
 // 1 where the frame's check sequence is right, 0 where it is wrong.
 #[unsafe(no_mangle)]
 pub extern "C" fn tockfeather_frame_check(frame: &[u8]) -> u32
-    ensures { result ≡ (if checkRight frame.now then 1 else 0) }
+    ensures { result ≡ (if check_right frame.now then 1 else 0) }
 {
     if fcs::check_right(frame) { 1 } else { 0 }
 }
@@ -26,7 +26,7 @@ pub extern "C" fn tockfeather_address_rule(
     hash_high: u32,
     hash_low: u32,
 ) -> u32
-    ensures { result ≡ addressRule (filterOf control high low hash_high hash_low) frame.now }
+    ensures { result ≡ address_rule (filter_of control high low hash_high hash_low) frame.now }
 {
     let filter = Filter {
         mcr: control,

@@ -8,38 +8,38 @@ use lib.Dec.{eqb, ltb}
 use lib.ListN.{length}
 use borrow.Author.Tests.{eq-eqb, eqb-true, eqb-false, ltb-false, le-ltb, not-false}
 use Rattle.rules.proofs.Choices.{by_bool, or_parts, passed, neither}
-use Rattle.window.specs.Window.{windowAllowed}
+use Rattle.window.specs.Window.{window_allowed}
 use Rattle.event.specs.Walk.{walk}
 use Rattle.event.specs.declared.Ending.{Ending}
 use Rattle.event.specs.declared.Ending.TheVariants.{Whole, Cut, NoEvent}
-use Rattle.stream.specs.Blocks.{blockCount, is_last, faultAt, Sound}
-use Rattle.stream.specs.Stream.{stream, base_of, windowOf, eventsOf, eventBytes}
-use Rattle.stream.proofs.Laws.{count-least}
-use Rattle.trace.specs.Judge.{headerFault, endingFault, eventFault, reason, firstBadFrom, firstBad}
+use Rattle.stream.specs.Blocks.{block_count, is_last, fault_at, Sound}
+use Rattle.stream.specs.Stream.{stream, base_of, window_of, events_of, event_bytes}
+use Rattle.stream.proofs.Laws.{count_least}
+use Rattle.trace.specs.Judge.{header_fault, ending_fault, event_fault, reason, first_bad_from, first_bad}
 use Rattle.trace.specs.Reading.{given, look}
 
 -- ---- reading without a refusal
 
 -- no block is bad, all is given, and the events have room
-pub look-given : (t : List ℕ) (room : ℕ) → (look t room).number ≡ 0
-    → ((firstBad t).number ≡ 0) × ((look t room ≡ given t) × (length (eventBytes t) ≤ room))
+pub look_given : (t : List ℕ) (room : ℕ) → (look t room).number ≡ 0
+    → ((first_bad t).number ≡ 0) × ((look t room ≡ given t) × (length (event_bytes t) ≤ room))
 unfolding look
-look-given t room e =
-    by_bool (eqb (firstBad t).number 0)
+look_given t room e =
+    by_bool (eqb (first_bad t).number 0)
     (λ u.
-    by_bool (ltb room (length (eventBytes t))) (λ v. absurd (omega (arith, rw (u, v) at e)))
-    (λ v. (eqb-true (firstBad t).number 0 u, (rw (u, v), ltb-false room (length (eventBytes t)) v))))
-    (λ u. absurd (eqb-false (firstBad t).number 0 u (rw u at e)))
+    by_bool (ltb room (length (event_bytes t))) (λ v. absurd (omega (arith, rw (u, v) at e)))
+    (λ v. (eqb-true (first_bad t).number 0 u, (rw (u, v), ltb-false room (length (event_bytes t)) v))))
+    (λ u. absurd (eqb-false (first_bad t).number 0 u (rw u at e)))
 
 -- the other way round
-pub look-gives : (t : List ℕ) (room : ℕ) → (firstBad t).number ≡ 0 → length (eventBytes t) ≤ room → look t room ≡ given t
+pub look_gives : (t : List ℕ) (room : ℕ) → (first_bad t).number ≡ 0 → length (event_bytes t) ≤ room → look t room ≡ given t
 unfolding look
-look-gives t room good fits = rw (eq-eqb (firstBad t).number 0 good, le-ltb room (length (eventBytes t)) fits)
+look_gives t room good fits = rw (eq-eqb (first_bad t).number 0 good, le-ltb room (length (event_bytes t)) fits)
 
 -- ---- the search for a bad block
 
-none_found : (t : List ℕ) (n k j : ℕ) → (firstBadFrom t k n).number ≡ 0 → j < n → reason t (k + j) ≡ 0
-unfolding firstBadFrom
+none_found : (t : List ℕ) (n k j : ℕ) → (first_bad_from t k n).number ≡ 0 → j < n → reason t (k + j) ≡ 0
+unfolding first_bad_from
 none_found t zero k j e l = absurd (omega arith)
 none_found t (suc n) k zero e l =
     let z : k + 0 ≡ k = omega arith in
@@ -50,49 +50,49 @@ none_found t (suc n) k (suc j) e l =
     (by_bool (eqb (reason t k) 0) (λ u. none_found t n (k + 1) j (rw u at e) (omega arith))
     (λ u. absurd (eqb-false (reason t k) 0 u (rw u at e))))
 
-no-reason : (t : List ℕ) (k : ℕ) → reason t k ≡ 0 → (faultAt t k ≡ 0) × (eventFault (is_last t k) (stream t (k + 1)) ≡ false)
+no_reason : (t : List ℕ) (k : ℕ) → reason t k ≡ 0 → (fault_at t k ≡ 0) × (event_fault (is_last t k) (stream t (k + 1)) ≡ false)
 unfolding reason
-no-reason t k e =
-    let p = neither (faultAt t k) _ e in
-    (p.0, (passed (eventFault (is_last t k) (stream t (k + 1))) 22 0 (omega arith) p.1).0)
+no_reason t k e =
+    let p = neither (fault_at t k) _ e in
+    (p.0, (passed (event_fault (is_last t k) (stream t (k + 1))) 22 0 (omega arith) p.1).0)
 
-whole-end : (e : Ending) → endingFault true e ≡ false → e ≡ Whole
-whole-end Whole h = refl
-whole-end Cut h = absurd (true≢false h)
-whole-end NoEvent h = absurd (true≢false h)
+whole_end : (e : Ending) → ending_fault true e ≡ false → e ≡ Whole
+whole_end Whole h = refl
+whole_end Cut h = absurd (true≢false h)
+whole_end NoEvent h = absurd (true≢false h)
 
-module _ (t : List ℕ) (good : (firstBad t).number ≡ 0) where
+module _ (t : List ℕ) (good : (first_bad t).number ≡ 0) where
   abbrev n : ℕ
-  n = blockCount (length t)
+  n = block_count (length t)
 
   abbrev s : List ℕ
   s = stream t n
 
-  no-reasons : (k : ℕ) → k < n → reason t k ≡ 0
-  unfolding firstBad
-  no-reasons k l = let z : 0 + k ≡ k = omega arith in rw z at (none_found t n 0 k good l)
+  no_reasons : (k : ℕ) → k < n → reason t k ≡ 0
+  unfolding first_bad
+  no_reasons k l = let z : 0 + k ≡ k = omega arith in rw z at (none_found t n 0 k good l)
 
   pub sound : Sound t n
-  sound k l = (no-reason t k (no-reasons k l)).0
+  sound k l = (no_reason t k (no_reasons k l)).0
 
   -- of the last block, the events are those of all
-  no-event-fault : eventFault true s ≡ false
+  no_event_fault : event_fault true s ≡ false
   unfolding is_last
-  no-event-fault =
-      let c = count-least (length t) in
+  no_event_fault =
+      let c = count_least (length t) in
       let z : n - 1 + 1 ≡ n = omega arith in
-      let f = (no-reason t (n - 1) (no-reasons (n - 1) (omega arith))).1 in
+      let f = (no_reason t (n - 1) (no_reasons (n - 1) (omega arith))).1 in
       rw (z, eq-eqb n n refl) at f
 
-  pub header-right : (6 ≤ length s) × (windowAllowed (base_of s) (windowOf s) ≡ true)
-  unfolding eventFault headerFault
-  header-right =
-      let p = or_parts (headerFault s) (endingFault true (walk (eventsOf s)).ending) no-event-fault in
-      let q = or_parts (ltb (length s) 6) (not (windowAllowed (base_of s) (windowOf s))) p.0 in
-      (ltb-false (length s) 6 q.0, not-false (windowAllowed (base_of s) (windowOf s)) q.1)
+  pub header_right : (6 ≤ length s) × (window_allowed (base_of s) (window_of s) ≡ true)
+  unfolding event_fault header_fault
+  header_right =
+      let p = or_parts (header_fault s) (ending_fault true (walk (events_of s)).ending) no_event_fault in
+      let q = or_parts (ltb (length s) 6) (not (window_allowed (base_of s) (window_of s))) p.0 in
+      (ltb-false (length s) 6 q.0, not-false (window_allowed (base_of s) (window_of s)) q.1)
 
-  pub events-whole : (walk (eventsOf s)).ending ≡ Whole
-  unfolding eventFault
-  events-whole =
-      let p = or_parts (headerFault s) (endingFault true (walk (eventsOf s)).ending) no-event-fault in
-      whole-end (walk (eventsOf s)).ending p.1
+  pub events_whole : (walk (events_of s)).ending ≡ Whole
+  unfolding event_fault
+  events_whole =
+      let p = or_parts (header_fault s) (ending_fault true (walk (events_of s)).ending) no_event_fault in
+      whole_end (walk (events_of s)).ending p.1

@@ -2,36 +2,36 @@
 -- event". Assumes nothing.
 use Rattle.std.specs.Prelude.{ℕ, zero, suc, ◌+◌, Bool, true, false, not, ◌||◌, List, eqb, ltb, length}
 use Rattle.rules.specs.Choice.{if◌then◌else◌, ◌otherwise◌}
-use Rattle.window.specs.Window.{windowAllowed}
+use Rattle.window.specs.Window.{window_allowed}
 use Rattle.event.specs.Walk.{walk}
 use Rattle.event.specs.declared.Ending.{Ending}
 use Rattle.event.specs.declared.Ending.TheVariants.{Whole, Cut, NoEvent}
 use Rattle.stream.specs.declared.Fault.{Fault}
-use Rattle.stream.specs.Blocks.{blockCount, is_last, faultAt}
-use Rattle.stream.specs.Stream.{stream, base_of, windowOf, headerLength, eventsOf}
+use Rattle.stream.specs.Blocks.{block_count, is_last, fault_at}
+use Rattle.stream.specs.Stream.{stream, base_of, window_of, header_length, events_of}
 
 -- "a header cut or not allowed is an event fault"
-unfoldable pub headerFault : List ℕ → Bool
-headerFault s = ltb (length s) headerLength || not (windowAllowed (base_of s) (windowOf s))
+unfoldable pub header_fault : List ℕ → Bool
+header_fault s = ltb (length s) header_length || not (window_allowed (base_of s) (window_of s))
 
 -- "A byte no event can have there is its block's fault, a cut event the last block's"
-abbrev pub endingFault : Bool → Ending → Bool
-endingFault last Whole = false
-endingFault last Cut = last
-endingFault last NoEvent = true
+abbrev pub ending_fault : Bool → Ending → Bool
+ending_fault last Whole = false
+ending_fault last Cut = last
+ending_fault last NoEvent = true
 
 -- of the used data up to a block's end. A byte in an earlier block has made that one bad
-unfoldable pub eventFault : Bool → List ℕ → Bool
-eventFault last s = headerFault s || endingFault last (walk (eventsOf s)).ending
+unfoldable pub event_fault : Bool → List ℕ → Bool
+event_fault last s = header_fault s || ending_fault last (walk (events_of s)).ending
 
 -- why the block at place k is bad, or 0: its faults by itself, then its events, which are those of the blocks up to it
 unfoldable pub reason : List ℕ → ℕ → ℕ
-reason t k = faultAt t k otherwise (if eventFault (is_last t k) (stream t (k + 1)) then 22 else 0)
+reason t k = fault_at t k otherwise (if event_fault (is_last t k) (stream t (k + 1)) then 22 else 0)
 
 -- the first of n blocks from place k on that is bad, and its reason; or 0 and 0
-unfoldable pub firstBadFrom : List ℕ → ℕ → ℕ → Fault
-firstBadFrom t k zero = record { number = 0; block = 0 }
-firstBadFrom t k (suc n) = if eqb (reason t k) 0 then firstBadFrom t (k + 1) n else record { number = reason t k; block = k }
+unfoldable pub first_bad_from : List ℕ → ℕ → ℕ → Fault
+first_bad_from t k zero = record { number = 0; block = 0 }
+first_bad_from t k (suc n) = if eqb (reason t k) 0 then first_bad_from t (k + 1) n else record { number = reason t k; block = k }
 
-unfoldable pub firstBad : List ℕ → Fault
-firstBad t = firstBadFrom t 0 (blockCount (length t))
+unfoldable pub first_bad : List ℕ → Fault
+first_bad t = first_bad_from t 0 (block_count (length t))

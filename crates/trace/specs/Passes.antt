@@ -5,13 +5,13 @@ use Rattle.rules.specs.Choice.{if◌then◌else◌}
 use Rattle.event.specs.declared.Ending.{Ending}
 use Rattle.event.specs.declared.Ending.TheVariants.{Whole, Cut, NoEvent}
 use Rattle.stream.specs.declared.Fault.{Fault}
-use Rattle.stream.specs.Stream.{headerLength}
+use Rattle.stream.specs.Stream.{header_length}
 
 abbrev pub verdict : ℕ → ℕ → Fault
 verdict number block = record { number = number; block = block }
 
 -- the block of a byte that no event can have, else the block that is wrong by itself, else the last where an event is cut
-unfoldable pub eventsFault : Ending → ℕ → Fault → Fault
-eventsFault NoEvent place f = verdict 22 ((headerLength + place) / 504)
-eventsFault Cut place f = if eqb f.number 0 then verdict 22 (f.block - 1) else f
-eventsFault Whole place f = if eqb f.number 0 then verdict 0 0 else f
+unfoldable pub events_fault : Ending → ℕ → Fault → Fault
+events_fault NoEvent place f = verdict 22 ((header_length + place) / 504)
+events_fault Cut place f = if eqb f.number 0 then verdict 22 (f.block - 1) else f
+events_fault Whole place f = if eqb f.number 0 then verdict 0 0 else f

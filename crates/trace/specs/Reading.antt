@@ -4,10 +4,10 @@ use Rattle.std.specs.Prelude.{ℕ, List, eqb, ltb, length}
 use Rattle.rules.specs.Choice.{if◌then◌else◌}
 use Rattle.memory.specs.Memory.{store}
 use Rattle.event.specs.Walk.{walk}
-use Rattle.stream.specs.Blocks.{blockCount}
-use Rattle.stream.specs.Stream.{stream, base_of, windowOf, eventBytes}
+use Rattle.stream.specs.Blocks.{block_count}
+use Rattle.stream.specs.Stream.{stream, base_of, window_of, event_bytes}
 use Rattle.trace.specs.declared.Summary.{Summary}
-use Rattle.trace.specs.Judge.{firstBad}
+use Rattle.trace.specs.Judge.{first_bad}
 
 abbrev pub refused : ℕ → ℕ → Summary
 refused number block = record { number = number; block = block; base = 0; window = 0; bytes = 0; events = 0 }
@@ -15,22 +15,22 @@ refused number block = record { number = number; block = block; base = 0; window
 -- the window, how many bytes the events are, and how many events
 abbrev pub given : List ℕ → Summary
 given t =
-    let s = stream t (blockCount (length t)) in
+    let s = stream t (block_count (length t)) in
     record {
       number = 0;
       block = 0;
       base = base_of s;
-      window = windowOf s;
-      bytes = length (eventBytes t);
-      events = length (walk (eventBytes t)).events;
+      window = window_of s;
+      bytes = length (event_bytes t);
+      events = length (walk (event_bytes t)).events;
     }
 
 -- what a trace says to a reader with room for so many bytes
 unfoldable pub look : List ℕ → ℕ → Summary
 look t room =
-    if eqb (firstBad t).number 0
-    then (if ltb room (length (eventBytes t)) then refused 23 0 else given t)
-    else refused (firstBad t).number (firstBad t).block
+    if eqb (first_bad t).number 0
+    then (if ltb room (length (event_bytes t)) then refused 23 0 else given t)
+    else refused (first_bad t).number (first_bad t).block
 
 -- what reading gives: that, and the room, with the events at its front
 pub record Reading : Type 0 where
@@ -43,4 +43,4 @@ reading_of s room = record { summary = s; room = room }
 unfoldable pub read : List ℕ → List ℕ → Reading
 read t room =
     let s = look t (length room) in
-    reading_of s (if eqb s.number 0 then store room 0 (eventBytes t) else room)
+    reading_of s (if eqb s.number 0 then store room 0 (event_bytes t) else room)

@@ -5,10 +5,10 @@ ghost use Rattle.std.specs.Prelude.{◌+◌, ◌^◌, ◌≤◌, ◌<◌, ◌≡
 ghost use Rattle.memory.specs.Memory.{word};
 ghost use Rattle.block.specs.Fields.{half};
 ghost use Rattle.event.specs.Walk.{walk, counted};
-ghost use Rattle.stream.specs.Blocks.{blockCount, Sound};
-ghost use Rattle.stream.specs.Stream.{stream, headerLength, eventsOf};
-ghost use Rattle.trace.specs.Judge.{headerFault};
-ghost use Rattle.trace.specs.Passes.{verdict, eventsFault};
+ghost use Rattle.stream.specs.Blocks.{block_count, Sound};
+ghost use Rattle.stream.specs.Stream.{stream, header_length, events_of};
+ghost use Rattle.trace.specs.Judge.{header_fault};
+ghost use Rattle.trace.specs.Passes.{verdict, events_fault};
 ghost use Rattle.trace.specs.Reading.{refused, look, reading_of, read};
 
 use event::{Ending, Walked};
@@ -28,7 +28,7 @@ pub struct Summary {
 
 // How many bytes of used data the first blocks have, which are sound.
 fn end_of(trace: &[u8], good: usize) -> usize
-    requires { Sound trace.now good × ((0 < good) × (good ≤ blockCount (length trace.now))) }
+    requires { Sound trace.now good × ((0 < good) × (good ≤ block_count (length trace.now))) }
     ensures { result ≡ length (stream trace.now good) }
 {
     504 * (good - 1) + block::used(stream::block_at(trace, good - 1))
@@ -36,8 +36,8 @@ fn end_of(trace: &[u8], good: usize) -> usize
 
 // The walk along the events of the first blocks, which are sound and have a header.
 fn walk_in(trace: &[u8], good: usize) -> Walked
-    requires { (Sound trace.now good × ((0 < good) × (good ≤ blockCount (length trace.now)))) × (headerLength ≤ length (stream trace.now good)) }
-    ensures { result ≡ counted (walk (eventsOf (stream trace.now good))) }
+    requires { (Sound trace.now good × ((0 < good) × (good ≤ block_count (length trace.now)))) × (header_length ≤ length (stream trace.now good)) }
+    ensures { result ≡ counted (walk (events_of (stream trace.now good))) }
 {
     let end = end_of(trace, good);
     let mut place = 0;
@@ -71,8 +71,8 @@ fn window_of(trace: &[u8]) -> u32
 
 // A header of the first blocks, which are sound, that is cut or has no allowed window.
 fn header_fault(trace: &[u8], good: usize) -> bool
-    requires { Sound trace.now good × ((0 < good) × (good ≤ blockCount (length trace.now))) }
-    ensures { result ≡ headerFault (stream trace.now good) }
+    requires { Sound trace.now good × ((0 < good) × (good ≤ block_count (length trace.now))) }
+    ensures { result ≡ header_fault (stream trace.now good) }
 {
     if end_of(trace, good) < HEADER {
         return true;
@@ -83,8 +83,8 @@ fn header_fault(trace: &[u8], good: usize) -> bool
 // The first bad block, where the header is right: that of a byte no event can have, else the one that is wrong by itself, else
 // the last where an event is cut.
 fn events_fault(ending: Ending, place: usize, number: u32, block: usize) -> Fault
-    requires { (headerLength + place < 2 ^ 64) × (0 < block) }
-    ensures { result ≡ eventsFault ending place (verdict number block) }
+    requires { (header_length + place < 2 ^ 64) × (0 < block) }
+    ensures { result ≡ events_fault ending place (verdict number block) }
 {
     match ending {
         Ending::NoEvent => Fault {

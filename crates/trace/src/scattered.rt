@@ -1,6 +1,6 @@
 // The used data of a trace's blocks where it lies, in full blocks but for the last.
 ghost use Rattle.std.specs.Prelude.{◌+◌, ◌*◌, ◌/◌, ◌%◌, ◌^◌, ◌<◌, ◌≡◌};
-ghost use Rattle.trace.specs.Scattered.{byteIn, word_in, sizeIn};
+ghost use Rattle.trace.specs.Scattered.{byte_in, word_in, size_in};
 
 // Where a byte of it lies: behind its block's number and used length, and behind eight such bytes of each block before.
 fn place(p: usize) -> usize
@@ -12,7 +12,7 @@ fn place(p: usize) -> usize
 
 // A byte of it.
 pub(crate) fn byte(trace: &[u8], p: usize) -> u8
-    ensures { result ≡ byteIn trace.now p }
+    ensures { result ≡ byte_in trace.now p }
 {
     if trace.len() <= p {
         return 0;
@@ -42,7 +42,7 @@ fn word(trace: &[u8], p: usize) -> u32
 // The size of the event at a place, where the data has so many bytes; 0 where there is no whole event. Only of a frame are the four
 // bytes behind the first one looked at.
 pub(crate) fn size(trace: &[u8], end: usize, p: usize) -> usize
-    ensures { result ≡ sizeIn trace.now end p }
+    ensures { result ≡ size_in trace.now end p }
 {
     if end <= p {
         return 0;

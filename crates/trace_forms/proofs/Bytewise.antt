@@ -10,8 +10,8 @@ use borrow.Author.Tests.{ltb-true, ltb-false}
 use Rattle.rules.proofs.Choices.{by_bool}
 use Rattle.memory.specs.Memory.{word_of, word, word_bytes}
 use Rattle.block_forms.specs.Forms.{Bytes}
-use Rattle.block_forms.proofs.Lists.{four-first, word-bytes}
-use Rattle.memory.proofs.Parts.{word-from}
+use Rattle.block_forms.proofs.Lists.{four_first, word_bytes_lem}
+use Rattle.memory.proofs.Parts.{word_from}
 
 -- the number of a number's four bytes
 pub digits : (v : ℕ) → v < 2 ^ 32 → word_of (v % 256) (v / 256 % 256) (v / 256 / 256 % 256) (v / 256 / 256 / 256 % 256) ≡ v
@@ -43,14 +43,14 @@ module _ (s : List ℕ) (bytes : Bytes s) where
   one_word h =
       sym (take-append-drop 4 s)
       ∙ ap (λ (l : List ℕ). l ++ drop 4 s)
-      (four-first s h ∙ sym (word-bytes (get_or s 0 0) (get_or s 1 0) (get_or s 2 0) (get_or s 3 0) (bytes 0) (bytes 1) (bytes 2) (bytes 3)))
+      (four_first s h ∙ sym (word_bytes_lem (get_or s 0 0) (get_or s 1 0) (get_or s 2 0) (get_or s 3 0) (bytes 0) (bytes 1) (bytes 2) (bytes 3)))
 
 -- two words
-pub two-words : (s : List ℕ) → Bytes s → 8 ≤ length s → s ≡ (word_bytes (word s 0) ++ word_bytes (word s 4)) ++ drop 8 s
-two-words s bytes h =
+pub two_words : (s : List ℕ) → Bytes s → 8 ≤ length s → s ≡ (word_bytes (word s 0) ++ word_bytes (word s 4)) ++ drop 8 s
+two_words s bytes h =
     let l = length-drop 4 s in
     let second : drop 4 s ≡ word_bytes (word s 4) ++ drop 8 s =
-    one_word (drop 4 s) (bytes_drop 4 s bytes) (omega arith) ∙ rw (word-from s 4 0, drop-drop 4 4 s) in
+    one_word (drop 4 s) (bytes_drop 4 s bytes) (omega arith) ∙ rw (word_from s 4 0, drop-drop 4 4 s) in
     one_word s bytes (omega arith)
     ∙ ap (λ (r : List ℕ). word_bytes (word s 0) ++ r) second
     ∙ sym (append_assoc (word_bytes (word s 0)) (word_bytes (word s 4)) (drop 8 s))

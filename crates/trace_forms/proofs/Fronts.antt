@@ -11,31 +11,31 @@ use borrow.Author.Tests.{ne_eqb, le-ltb, eqb-true, eqb-false}
 use Rattle.rules.proofs.Choices.{by_bool}
 use Rattle.memory.specs.Memory.{word, word_bytes}
 use Rattle.block_forms.specs.Forms.{Bytes}
-use Rattle.event.specs.Event.{Event, registerWrite, grant, frame, send, bytes_of, size}
-use Rattle.event.specs.Front.{whole, frameFront, front}
+use Rattle.event.specs.Event.{Event, register_write, grant, frame, send, bytes_of, size}
+use Rattle.event.specs.Front.{whole, frame_front, front}
 use Rattle.event.specs.Sizes.{size_of}
-use Rattle.event.proofs.Fronts.{whole-write, whole-grant, whole-frame, whole-send, size_fits}
+use Rattle.event.proofs.Fronts.{whole_write, whole_grant, whole_frame, whole_send, size_fits}
 use Rattle.trace_forms.specs.Events.{Storable}
-use Rattle.trace_forms.proofs.Bytewise.{digits, bytes_drop, bytes_take, word_small, one_word, two-words}
+use Rattle.trace_forms.proofs.Bytewise.{digits, bytes_drop, bytes_take, word_small, one_word, two_words}
 
 -- ---- the bytes of an event are that event
 
-pub length-bytes : (e : Event) → length (bytes_of e) ≡ size e
+pub length_bytes : (e : Event) → length (bytes_of e) ≡ size e
 unfolding bytes_of word_bytes
-length-bytes (registerWrite offset value) = refl
-length-bytes (grant address) = refl
-length-bytes (frame bytes) = omega arith
-length-bytes send = refl
+length_bytes (register_write offset value) = refl
+length_bytes (grant address) = refl
+length_bytes (frame bytes) = omega arith
+length_bytes send = refl
 
-pub front-back : (e : Event) (r : List ℕ) → Storable e → front (bytes_of e ++ r) ≡ whole e
-unfolding front frameFront bytes_of word word_bytes
-front-back (registerWrite offset value) r s =
-    let n = length (bytes_of (registerWrite offset value) ++ r) in
+pub front_back : (e : Event) (r : List ℕ) → Storable e → front (bytes_of e ++ r) ≡ whole e
+unfolding front frame_front bytes_of word word_bytes
+front_back (register_write offset value) r s =
+    let n = length (bytes_of (register_write offset value) ++ r) in
     rw (ne_eqb n 0 (λ q. omega arith), le-ltb n 9 (omega arith), digits offset s.0, digits value s.1)
-front-back (grant address) r s =
+front_back (grant address) r s =
     let n = length (bytes_of (grant address) ++ r) in
     rw (ne_eqb n 0 (λ q. omega arith), le-ltb n 5 (omega arith), digits address s)
-front-back (frame bytes) r s =
+front_back (frame bytes) r s =
     let n = length (bytes_of (frame bytes) ++ r) in
     let l = length-append bytes r in
     rw (
@@ -45,7 +45,7 @@ front-back (frame bytes) r s =
       le-ltb n (5 + length bytes) (omega arith),
       take_at bytes r (length bytes) refl,
     )
-front-back send r s = rw (ne_eqb (length (bytes_of send ++ r)) 0 (λ q. omega arith))
+front_back send r s = rw (ne_eqb (length (bytes_of send ++ r)) 0 (λ q. omega arith))
 
 -- ---- a whole event is its bytes
 
@@ -57,13 +57,13 @@ pub record WholeFront (s : List ℕ) : Type 0 where
 
 module _ (r : List ℕ) (bytes : Bytes r) where
   -- the same from the first byte on
-  write_same : 8 ≤ length r → 1 ∷ r ≡ bytes_of (registerWrite (word (1 ∷ r) 1) (word (1 ∷ r) 5)) ++ drop 9 (1 ∷ r)
+  write_same : 8 ≤ length r → 1 ∷ r ≡ bytes_of (register_write (word (1 ∷ r) 1) (word (1 ∷ r) 5)) ++ drop 9 (1 ∷ r)
   unfolding bytes_of word
-  write_same h = ap (λ (l : List ℕ). 1 ∷ l) (two-words r bytes h)
+  write_same h = ap (λ (l : List ℕ). 1 ∷ l) (two_words r bytes h)
 
-  grant-same : 4 ≤ length r → 2 ∷ r ≡ bytes_of (grant (word (2 ∷ r) 1)) ++ drop 5 (2 ∷ r)
+  grant_same : 4 ≤ length r → 2 ∷ r ≡ bytes_of (grant (word (2 ∷ r) 1)) ++ drop 5 (2 ∷ r)
   unfolding bytes_of word
-  grant-same h = ap (λ (l : List ℕ). 2 ∷ l) (one_word r bytes h)
+  grant_same h = ap (λ (l : List ℕ). 2 ∷ l) (one_word r bytes h)
 
   -- a frame of n bytes
   frame_same : (n : ℕ) → n ≡ word r 0 → 4 + n ≤ length r
@@ -90,30 +90,30 @@ module _ (x : ℕ) (r : List ℕ) (bytes : Bytes (x ∷ r)) (h : size_of (front 
 
   a_write : x ≡ 1 → WholeFront (x ∷ r)
   a_write q =
-      let is = whole-write (x ∷ r) (omega arith) h q in
-      let n = fits (registerWrite (word (x ∷ r) 1) (word (x ∷ r) 5)) is in
+      let is = whole_write (x ∷ r) (omega arith) h q in
+      let n = fits (register_write (word (x ∷ r) 1) (word (x ∷ r) 5)) is in
       record {
-        event = registerWrite (word (x ∷ r) 1) (word (x ∷ r) 5);
+        event = register_write (word (x ∷ r) 1) (word (x ∷ r) 5);
         is = is;
         same = rw q (write_same r rest (omega arith));
         storable = (word_small (x ∷ r) bytes 1, word_small (x ∷ r) bytes 5);
       }
 
-  a-grant : x ≡ 2 → WholeFront (x ∷ r)
-  a-grant q =
-      let is = whole-grant (x ∷ r) (omega arith) h q in
+  a_grant_lem : x ≡ 2 → WholeFront (x ∷ r)
+  a_grant_lem q =
+      let is = whole_grant (x ∷ r) (omega arith) h q in
       let n = fits (grant (word (x ∷ r) 1)) is in
       record {
         event = grant (word (x ∷ r) 1);
         is = is;
-        same = rw q (grant-same r rest (omega arith));
+        same = rw q (grant_same r rest (omega arith));
         storable = word_small (x ∷ r) bytes 1;
       }
 
-  a-frame : x ≡ 3 → WholeFront (x ∷ r)
+  a_frame : x ≡ 3 → WholeFront (x ∷ r)
   unfolding word
-  a-frame q =
-      let w = whole-frame (x ∷ r) (omega arith) h q in
+  a_frame q =
+      let w = whole_frame (x ∷ r) (omega arith) h q in
       let n = w.1 in
       let l = length-take (word (x ∷ r) 1) (drop 5 (x ∷ r)) in
       let small = word_small (x ∷ r) bytes 1 in
@@ -124,22 +124,22 @@ module _ (x : ℕ) (r : List ℕ) (bytes : Bytes (x ∷ r)) (h : size_of (front 
         storable = (omega arith, bytes_take (word (x ∷ r) 1) (drop 5 (x ∷ r)) (bytes_drop 5 (x ∷ r) bytes));
       }
 
-  a-send : eqb x 1 ≡ false → eqb x 2 ≡ false → eqb x 3 ≡ false → WholeFront (x ∷ r)
+  a_send_lem : eqb x 1 ≡ false → eqb x 2 ≡ false → eqb x 3 ≡ false → WholeFront (x ∷ r)
   unfolding front bytes_of
-  a-send a b c =
+  a_send_lem a b c =
       by_bool (eqb x 4)
       (λ d.
       record {
         event = send;
-        is = whole-send (x ∷ r) (omega arith) h (eqb-false x 1 a) (eqb-false x 2 b) (eqb-false x 3 c);
+        is = whole_send (x ∷ r) (omega arith) h (eqb-false x 1 a) (eqb-false x 2 b) (eqb-false x 3 c);
         same = rw (eqb-true x 4 d);
         storable = tt;
       })
       (λ d. absurd (h (rw (ne_eqb (length (x ∷ r)) 0 (λ q. omega arith), a, b, c, d))))
 
-  pub whole-front : WholeFront (x ∷ r)
-  whole-front =
+  pub whole_front : WholeFront (x ∷ r)
+  whole_front =
       by_bool (eqb x 1) (λ t. a_write (eqb-true x 1 t))
       (λ a.
-      by_bool (eqb x 2) (λ t. a-grant (eqb-true x 2 t))
-      (λ b. by_bool (eqb x 3) (λ t. a-frame (eqb-true x 3 t)) (λ c. a-send a b c)))
+      by_bool (eqb x 2) (λ t. a_grant_lem (eqb-true x 2 t))
+      (λ b. by_bool (eqb x 3) (λ t. a_frame (eqb-true x 3 t)) (λ c. a_send_lem a b c)))

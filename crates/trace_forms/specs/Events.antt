@@ -1,13 +1,13 @@
 -- 02, Wish 4: "one byte string for each event". Assumes nothing.
 use Rattle.std.specs.Prelude.{ℕ, ◌^◌, ◌<◌, ◌≡◌, List, [], ◌∷◌, length}
 use Rattle.block_forms.specs.Forms.{Bytes}
-use Rattle.event.specs.Event.{Event, registerWrite, grant, frame, send, list_of}
+use Rattle.event.specs.Event.{Event, register_write, grant, frame, send, list_of}
 use Rattle.event.specs.Walk.{walk}
 use Rattle.event.specs.declared.Ending.TheVariants.{Whole}
 
 -- an event as docs/TRACE.md lays it out: its numbers have four bytes, and a frame is bytes
 abbrev pub Storable : Event → Type 0
-Storable (registerWrite offset value) = (offset < 2 ^ 32) × (value < 2 ^ 32)
+Storable (register_write offset value) = (offset < 2 ^ 32) × (value < 2 ^ 32)
 Storable (grant address) = address < 2 ^ 32
 Storable (frame bytes) = (length bytes < 2 ^ 32) × Bytes bytes
 Storable send = Unit

@@ -4,12 +4,12 @@ use Rattle.std.specs.Prelude.{ℕ, ◌*◌, ◌≤◌, ◌≡◌, List, length, 
 use Rattle.memory.specs.Memory.{store}
 use Rattle.block_forms.specs.Forms.{Bytes}
 use Rattle.event.specs.Walk.{walk}
-use Rattle.stream.specs.Stream.{eventBytes}
+use Rattle.stream.specs.Stream.{event_bytes}
 use Rattle.trace.specs.declared.Summary.{Summary}
-use Rattle.trace.specs.Judge.{firstBad}
+use Rattle.trace.specs.Judge.{first_bad}
 use Rattle.trace.specs.Reading.{look, reading_of, read}
-use Rattle.trace_writing.specs.Made.{traceOf}
-use Rattle.trace_writing.specs.Writing.{needed, writeNumber, write}
+use Rattle.trace_writing.specs.Made.{trace_of}
+use Rattle.trace_writing.specs.Writing.{needed, write_number, write}
 
 -- "Reading gives the window and events": these
 abbrev pub same : ℕ → ℕ → List ℕ → Summary
@@ -29,8 +29,8 @@ same base window events =
 pub record Back (base window : ℕ) (events t : List ℕ) : Type 0 where
   pub long : length t ≡ 512 * needed events
   -- no block is bad
-  pub good : firstBad t ≡ record { number = 0; block = 0 }
-  pub bytes : eventBytes t ≡ events
+  pub good : first_bad t ≡ record { number = 0; block = 0 }
+  pub bytes : event_bytes t ≡ events
   -- whatever the room beyond what is needed
   pub found : (room : ℕ) → length events ≤ room → look t room ≡ same base window events
   pub reads :
@@ -42,8 +42,8 @@ pub record Back (base window : ℕ) (events t : List ℕ) : Type 0 where
 abbrev pub RoundTrip : Type 0
 RoundTrip =
     (base window : ℕ) (events : List ℕ) (room : ℕ)
-    → writeNumber base window events room ≡ 0
-    → Back base window events (traceOf base window events)
+    → write_number base window events room ≡ 0
+    → Back base window events (trace_of base window events)
 
 -- and so for the blocks that writing put at the front of a room
 abbrev pub WrittenReads : Type 0
@@ -59,9 +59,9 @@ WrittenReads =
 -- what a trace is that reads to a window and events
 pub record Formed (t : List ℕ) (f : Summary) : Type 0 where
   -- byte for byte what is made of them
-  pub only : t ≡ traceOf f.base f.window (eventBytes t)
+  pub only : t ≡ trace_of f.base f.window (event_bytes t)
   -- which writing does not refuse: the events are whole, the window is allowed, and there are at most 65,536 blocks
-  pub written : writeNumber f.base f.window (eventBytes t) (length t) ≡ 0
+  pub written : write_number f.base f.window (event_bytes t) (length t) ≡ 0
 
 abbrev pub OneForm : Type 0
 OneForm = (t : List ℕ) (room : ℕ) → Bytes t → (look t room).number ≡ 0 → Formed t (look t room)
@@ -76,5 +76,5 @@ OneTrace =
     → (look u m).number ≡ 0
     → (look t n).base ≡ (look u m).base
     → (look t n).window ≡ (look u m).window
-    → eventBytes t ≡ eventBytes u
+    → event_bytes t ≡ event_bytes u
     → t ≡ u

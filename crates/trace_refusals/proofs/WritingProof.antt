@@ -5,17 +5,17 @@ use lib.Dec.{eqb, ltb}
 use lib.ListN.{length}
 use borrow.Author.Tests.{ltb-true, ltb-false}
 use Rattle.rules.proofs.Choices.{by_bool}
-use Rattle.window.specs.Window.{windowAllowed}
+use Rattle.window.specs.Window.{window_allowed}
 use Rattle.event.specs.Walk.{walk}
-use Rattle.trace_writing.specs.Writing.{is_whole, needed, writeNumber, write}
+use Rattle.trace_writing.specs.Writing.{is_whole, needed, write_number, write}
 use Rattle.trace_refusals.specs.Writing.{Exactly, ChangesNothing}
 
-pub writing-exactly : Exactly
-unfolding writeNumber
-writing-exactly base window events room =
+pub writing_exactly : Exactly
+unfolding write_number
+writing_exactly base window events room =
     by_bool (is_whole (walk events).ending)
     (λ w.
-    by_bool (windowAllowed base window)
+    by_bool (window_allowed base window)
     (λ a.
     by_bool (ltb 65536 (needed events)) (λ b. inr (inr (inl (w, a, ltb-true 65536 (needed events) b, rw (w, a, b)))))
     (λ b.
@@ -26,7 +26,7 @@ writing-exactly base window events room =
     (λ a. inr (inl (w, a, rw (w, a)))))
     (λ w. inl (w, rw w))
 
-pub writing-changes-nothing : ChangesNothing
+pub writing_changes_nothing : ChangesNothing
 unfolding write
-writing-changes-nothing base window events room h =
-    by_bool (eqb (writeNumber base window events (length room)) 0) (λ t. absurd (h (rw t))) (λ t. (rw t, rw t))
+writing_changes_nothing base window events room h =
+    by_bool (eqb (write_number base window events (length room)) 0) (λ t. absurd (h (rw t))) (λ t. (rw t, rw t))

@@ -2,13 +2,13 @@
 use Rattle.std.specs.Prelude.{ℕ, ◌≤◌, ◌<◌, ◌≡◌, ◌⊎◌, List, length}
 use Rattle.trace.specs.Reading.{look}
 use Rattle.enet.specs.Device.{reset}
-use Rattle.replaying.specs.Replay.{replayNumber, replay}
+use Rattle.replaying.specs.Replay.{replay_number, replay}
 
 -- the reading's number where it refuses; else 24 exactly if there are fewer answers than events
 abbrev pub Says : List ℕ → ℕ → ℕ → Type 0
 Says t room answers =
     let f = look t room in
-    let n = replayNumber t room answers in
+    let n = replay_number t room answers in
     ((f.number ≡ 0 → ⊥) × (n ≡ f.number))
     ⊎ (((f.number ≡ 0) × (answers < f.events) × (n ≡ 24)) ⊎ ((f.number ≡ 0) × (f.events ≤ answers) × (n ≡ 0)))
 

@@ -1,16 +1,16 @@
 -- 02, Wish 4, of writing: "refused exactly if its event list is not of its form in docs/, if base and length are no allowed
 -- window, or if over 65,536 blocks or more room than lent is needed". Assumes nothing.
 use Rattle.std.specs.Prelude.{ℕ, ◌*◌, ◌≤◌, ◌<◌, ◌≡◌, true, false, ◌⊎◌, List}
-use Rattle.window.specs.Window.{windowAllowed}
+use Rattle.window.specs.Window.{window_allowed}
 use Rattle.event.specs.Walk.{walk}
-use Rattle.trace_writing.specs.Writing.{is_whole, needed, writeNumber, write}
+use Rattle.trace_writing.specs.Writing.{is_whole, needed, write_number, write}
 
 -- the situation of each number, in which it is given and no other
 abbrev pub Says : ℕ → ℕ → List ℕ → ℕ → Type 0
 Says base window events room =
-    let n = writeNumber base window events room in
+    let n = write_number base window events room in
     let whole = is_whole (walk events).ending in
-    let allowed = windowAllowed base window in
+    let allowed = window_allowed base window in
     ((whole ≡ false) × (n ≡ 25))
     ⊎ (((whole ≡ true) × (allowed ≡ false) × (n ≡ 26))
     ⊎ (((whole ≡ true) × (allowed ≡ true) × (65536 < needed events) × (n ≡ 27))

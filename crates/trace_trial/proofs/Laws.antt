@@ -6,21 +6,21 @@ use Rattle.memory.specs.Memory.{store}
 use Rattle.trace.specs.declared.Summary.{Summary}
 use Rattle.trace.specs.Reading.{reading_of, read}
 use Rattle.trace_writing.specs.declared.Written.{Written}
-use Rattle.trace_writing.specs.Writing.{writingOf, write}
+use Rattle.trace_writing.specs.Writing.{writing_of, write}
 use Rattle.replaying.specs.declared.Replayed.{Replayed}
 use Rattle.replaying.specs.Replay.{replaying, replay}
-use Rattle.trace_trial.specs.Numbers.{summaryNumbers, writtenNumbers, replayedNumbers, left, replayed}
+use Rattle.trace_trial.specs.Numbers.{summary_numbers, written_numbers, replayed_numbers, left, replayed}
 
-pub read_left : (t room next found after : List ℕ) (f : Summary) → reading_of f next ≡ read t room → after ≡ store found 0 (summaryNumbers f)
-    → (next ≡ (read t room).room) × (after ≡ store found 0 (summaryNumbers (read t room).summary))
+pub read_left : (t room next found after : List ℕ) (f : Summary) → reading_of f next ≡ read t room → after ≡ store found 0 (summary_numbers f)
+    → (next ≡ (read t room).room) × (after ≡ store found 0 (summary_numbers (read t room).summary))
 read_left t room next found after f e q = (rw (← e), rw (← e) q)
 
-pub write-left : (base window : ℕ) (events room next found after : List ℕ) (w : Written) → writingOf w next ≡ write base window events room
-    → after ≡ store found 0 (writtenNumbers w)
-    → (next ≡ (write base window events room).room) × (after ≡ store found 0 (writtenNumbers (write base window events room).written))
-write-left base window events room next found after w e q = (rw (← e), rw (← e) q)
+pub write_left : (base window : ℕ) (events room next found after : List ℕ) (w : Written) → writing_of w next ≡ write base window events room
+    → after ≡ store found 0 (written_numbers w)
+    → (next ≡ (write base window events room).room) × (after ≡ store found 0 (written_numbers (write base window events room).written))
+write_left base window events room next found after w e q = (rw (← e), rw (← e) q)
 
-pub replay-left : (t room memory output answers found room₁ memory₁ output₁ answers₁ found₁ l : List ℕ) (r : Replayed)
-    → replaying r room₁ memory₁ output₁ answers₁ ≡ replay t room memory output answers → l ≡ replayedNumbers r → found₁ ≡ store found 0 l
+pub replay_left : (t room memory output answers found room₁ memory₁ output₁ answers₁ found₁ l : List ℕ) (r : Replayed)
+    → replaying r room₁ memory₁ output₁ answers₁ ≡ replay t room memory output answers → l ≡ replayed_numbers r → found₁ ≡ store found 0 l
     → left room₁ memory₁ output₁ answers₁ found₁ ≡ replayed t room memory output answers found
-replay-left t room memory output answers found room₁ memory₁ output₁ answers₁ found₁ l r e n q = rw (← e, q, n)
+replay_left t room memory output answers found room₁ memory₁ output₁ answers₁ found₁ l r e n q = rw (← e, q, n)

@@ -9,28 +9,28 @@ use Rattle.trace_writing.specs.declared.Written.{Written}
 use Rattle.replaying.specs.declared.Replayed.{Replayed}
 use Rattle.replaying.specs.Replay.{replay}
 
-abbrev pub summaryNumbers : Summary → List ℕ
-summaryNumbers f = f.number ∷ f.block ∷ f.base ∷ f.window ∷ f.bytes ∷ f.events ∷ []
+abbrev pub summary_numbers : Summary → List ℕ
+summary_numbers f = f.number ∷ f.block ∷ f.base ∷ f.window ∷ f.bytes ∷ f.events ∷ []
 
-abbrev pub writtenNumbers : Written → List ℕ
-writtenNumbers w = w.number ∷ w.blocks ∷ []
+abbrev pub written_numbers : Written → List ℕ
+written_numbers w = w.number ∷ w.blocks ∷ []
 
 abbrev pub flag : Bool → ℕ
 flag t = if t then 1 else 0
 
-abbrev pub engineNumbers : Engine → List ℕ
-engineNumbers e = e.start ∷ e.next ∷ flag e.running ∷ e.place ∷ flag e.polling ∷ []
+abbrev pub engine_numbers : Engine → List ℕ
+engine_numbers e = e.start ∷ e.next ∷ flag e.running ∷ e.place ∷ flag e.polling ∷ []
 
-abbrev pub counterNumbers : Counters → List ℕ
-counterNumbers c = c.delivered ∷ c.lost ∷ c.sent ∷ c.ticks ∷ []
+abbrev pub counter_numbers : Counters → List ℕ
+counter_numbers c = c.delivered ∷ c.lost ∷ c.sent ∷ c.ticks ∷ []
 
 -- number, block, bytes, events, then the window and the registers, then receiving, then sending, the send time-out, the counters
-abbrev pub replayedNumbers : Replayed → List ℕ
-replayedNumbers r =
+abbrev pub replayed_numbers : Replayed → List ℕ
+replayed_numbers r =
     let d = r.device in
     let g = d.registers in
     let f = g.filter in
-    r.number ∷ r.block ∷ r.bytes ∷ r.events ∷ d.base ∷ d.window ∷ g.isr ∷ g.ier ∷ f.mcr ∷ f.mah ∷ f.mal ∷ f.mcha ∷ f.mcla ∷ engineNumbers g.rx ++ engineNumbers g.tx ++ (g.txtor ∷ counterNumbers d.counters)
+    r.number ∷ r.block ∷ r.bytes ∷ r.events ∷ d.base ∷ d.window ∷ g.isr ∷ g.ier ∷ f.mcr ∷ f.mah ∷ f.mal ∷ f.mcha ∷ f.mcla ∷ engine_numbers g.rx ++ engine_numbers g.tx ++ (g.txtor ∷ counter_numbers d.counters)
 
 -- what a replay leaves of all that it is lent, and its answer at the front of a list
 pub record Left : Type 0 where
@@ -47,4 +47,4 @@ left room memory output answers found =
 abbrev pub replayed : List ℕ → List ℕ → List ℕ → List ℕ → List ℕ → List ℕ → Left
 replayed t room memory output answers found =
     let r = replay t room memory output answers in
-    left r.room r.memory r.output r.answers (store found 0 (replayedNumbers r.replayed))
+    left r.room r.memory r.output r.answers (store found 0 (replayed_numbers r.replayed))

@@ -4,7 +4,7 @@ ghost use Rattle.std.specs.Prelude.{◌≡◌};
 ghost use Rattle.memory.specs.Memory.{store};
 ghost use Rattle.trace.specs.Reading.{read};
 ghost use Rattle.trace_writing.specs.Writing.{write};
-ghost use Rattle.trace_trial.specs.Numbers.{summaryNumbers, writtenNumbers, flag, replayedNumbers, left, replayed};
+ghost use Rattle.trace_trial.specs.Numbers.{summary_numbers, written_numbers, flag, replayed_numbers, left, replayed};
 
 use replaying::Replayed;
 
@@ -18,7 +18,7 @@ fn flag(t: bool) -> u64
 // Reads a trace into a room.
 #[unsafe(no_mangle)]
 pub extern "C" fn trace_trial_read(trace: &[u8], room: &mut [u8], found: &mut [u64])
-    ensures { (room.new ≡ (read trace.now room.old).room) × (found.new ≡ store found.old 0 (summaryNumbers (read trace.now room.old).summary)) }
+    ensures { (room.new ≡ (read trace.now room.old).room) × (found.new ≡ store found.old 0 (summary_numbers (read trace.now room.old).summary)) }
 {
     let f = trace::read(trace, room);
     number_list::put(
@@ -43,7 +43,7 @@ pub extern "C" fn trace_trial_write(
     room: &mut [u8],
     found: &mut [u64],
 )
-    ensures { (room.new ≡ (write base window events.now room.old).room) × (found.new ≡ store found.old 0 (writtenNumbers (write base window events.now room.old).written)) }
+    ensures { (room.new ≡ (write base window events.now room.old).room) × (found.new ≡ store found.old 0 (written_numbers (write base window events.now room.old).written)) }
 {
     let w = trace_writing::write(base, window, events, room);
     number_list::put(found, &[w.number as u64, w.blocks as u64]);
@@ -51,7 +51,7 @@ pub extern "C" fn trace_trial_write(
 
 // What a replay answered.
 fn numbers_of(r: Replayed) -> [u64; 28]
-    ensures { result ≡ replayedNumbers r }
+    ensures { result ≡ replayed_numbers r }
 {
     let device = r.device;
     let registers = device.registers;

@@ -4,12 +4,12 @@
 use Rattle.std.specs.Prelude.{ℕ, ◌+◌, ◌*◌, Bool, true, false, not, List, eqb, ltb, length}
 use Rattle.rules.specs.Choice.{if◌then◌else◌}
 use Rattle.memory.specs.Memory.{store}
-use Rattle.window.specs.Window.{windowAllowed}
+use Rattle.window.specs.Window.{window_allowed}
 use Rattle.event.specs.Walk.{walk}
 use Rattle.event.specs.declared.Ending.{Ending}
 use Rattle.event.specs.declared.Ending.TheVariants.{Whole, Cut, NoEvent}
 use Rattle.trace_writing.specs.declared.Written.{Written}
-use Rattle.trace_writing.specs.Made.{blocksFor, traceOf}
+use Rattle.trace_writing.specs.Made.{blocks_for, trace_of}
 
 -- an event list "of its form": whole events and nothing behind them
 abbrev pub is_whole : Ending → Bool
@@ -19,13 +19,13 @@ is_whole NoEvent = false
 
 -- how many blocks a window and its events need
 abbrev pub needed : List ℕ → ℕ
-needed events = blocksFor (6 + length events)
+needed events = blocks_for (6 + length events)
 
 -- into a room of so many bytes
-unfoldable pub writeNumber : ℕ → ℕ → List ℕ → ℕ → ℕ
-writeNumber base window events room =
+unfoldable pub write_number : ℕ → ℕ → List ℕ → ℕ → ℕ
+write_number base window events room =
     if not (is_whole (walk events).ending) then 25 else
-    if not (windowAllowed base window) then 26 else
+    if not (window_allowed base window) then 26 else
     if ltb 65536 (needed events) then 27 else
     if ltb room (512 * needed events) then 28 else
     0
@@ -35,12 +35,12 @@ pub record Writing : Type 0 where
   pub written : Written
   pub room : List ℕ
 
-abbrev pub writingOf : Written → List ℕ → Writing
-writingOf w room = record { written = w; room = room }
+abbrev pub writing_of : Written → List ℕ → Writing
+writing_of w room = record { written = w; room = room }
 
 unfoldable pub write : ℕ → ℕ → List ℕ → List ℕ → Writing
 write base window events room =
-    let n = writeNumber base window events (length room) in
+    let n = write_number base window events (length room) in
     if eqb n 0
-    then writingOf (record { number = 0; blocks = needed events }) (store room 0 (traceOf base window events))
-    else writingOf (record { number = n; blocks = 0 }) room
+    then writing_of (record { number = 0; blocks = needed events }) (store room 0 (trace_of base window events))
+    else writing_of (record { number = n; blocks = 0 }) room

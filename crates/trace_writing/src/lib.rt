@@ -2,8 +2,8 @@
 mod blocks;
 
 ghost use Rattle.std.specs.Prelude.{◌+◌, ◌≡◌};
-ghost use Rattle.trace_writing.specs.Made.{blocksFor};
-ghost use Rattle.trace_writing.specs.Writing.{is_whole, writeNumber, writingOf, write};
+ghost use Rattle.trace_writing.specs.Made.{blocks_for};
+ghost use Rattle.trace_writing.specs.Writing.{is_whole, write_number, writing_of, write};
 
 use event::Ending;
 
@@ -28,14 +28,14 @@ fn is_whole(ending: Ending) -> bool
 // How many blocks so many bytes of events need, with the header's six before them. The sum of the two could wrap; the sum of
 // the remainder and six cannot.
 fn needed(bytes: usize) -> usize
-    ensures { result ≡ blocksFor (6 + bytes) }
+    ensures { result ≡ blocks_for (6 + bytes) }
 {
     bytes / 504 + (bytes % 504 + 509) / 504
 }
 
 // The number of the first refusal that holds, in the order in which they are named, or 0.
 fn number(base: u32, window: u32, events: &[u8], room: usize) -> u32
-    ensures { result ≡ writeNumber base window events.now room }
+    ensures { result ≡ write_number base window events.now room }
 {
     let walked = event::walk(events);
     let ending = walked.ending;
@@ -57,7 +57,7 @@ fn number(base: u32, window: u32, events: &[u8], room: usize) -> u32
 
 // Writes the trace of a window and an event list to the front of the room.
 pub fn write(base: u32, window: u32, events: &[u8], room: &mut [u8]) -> Written
-    ensures { writingOf result room.new ≡ write base window events.now room.old }
+    ensures { writing_of result room.new ≡ write base window events.now room.old }
 {
     let number = number(base, window, events, room.len());
     if number != 0 {

@@ -1,7 +1,7 @@
 // The two interrupt controllers of RM0006, chapter 4, beside the device: a register read and written, with what the current vector
 // address takes into service and ends. The pair's state is vic_pair's, its answer vic_answer's.
 ghost use Rattle.std.specs.Prelude.{◌≡◌};
-ghost use Rattle.vic.specs.Access.{controllerOf, withController, levelsOf, cameFrom, withService, vectorOf, readVector, writeVector, read, write};
+ghost use Rattle.vic.specs.Access.{controller_of, with_controller, levels_of, came_from, with_service, vector_of, read_vector, write_vector, read, write};
 
 use vic_controller::Controller;
 use vic_pair::{Inputs, Vics, Which};
@@ -24,7 +24,7 @@ pub struct Change {
 }
 
 fn controller_of(vics: Vics, which: Which) -> Controller
-    ensures { result ≡ controllerOf vics which }
+    ensures { result ≡ controller_of vics which }
 {
     match which {
         Which::Vic0 => vics.vic0,
@@ -33,7 +33,7 @@ fn controller_of(vics: Vics, which: Which) -> Controller
 }
 
 fn with_controller(vics: Vics, which: Which, c: Controller) -> Vics
-    ensures { result ≡ withController vics which c }
+    ensures { result ≡ with_controller vics which c }
 {
     let mut next = vics;
     match which {
@@ -49,7 +49,7 @@ fn with_controller(vics: Vics, which: Which, c: Controller) -> Vics
 }
 
 fn levels_of(inputs: Inputs, which: Which) -> u16
-    ensures { result ≡ levelsOf inputs which }
+    ensures { result ≡ levels_of inputs which }
 {
     match which {
         Which::Vic0 => inputs.vic0,
@@ -59,7 +59,7 @@ fn levels_of(inputs: Inputs, which: Which) -> u16
 
 // A rank in service came from the controller.
 fn came_from(which: Which, rank: usize) -> bool
-    ensures { result ≡ cameFrom which rank }
+    ensures { result ≡ came_from which rank }
 {
     match which {
         Which::Vic0 => rank < RANKS_EACH,
@@ -73,7 +73,7 @@ fn came_from(which: Which, rank: usize) -> bool
 
 // The vector of a rank, as its registers stand now.
 fn vector_of(vics: Vics, rank: usize) -> u32
-    ensures { result ≡ vectorOf vics rank }
+    ensures { result ≡ vector_of vics rank }
 {
     if rank < RANKS_EACH {
         return vic_answer::vector_at(vics.vic0, rank % RANKS_EACH);
@@ -82,7 +82,7 @@ fn vector_of(vics: Vics, rank: usize) -> u32
 }
 
 fn with_service(vics: Vics, service: Service) -> Vics
-    ensures { result ≡ withService vics service }
+    ensures { result ≡ with_service vics service }
 {
     let mut next = vics;
     next.service = service;
@@ -91,7 +91,7 @@ fn with_service(vics: Vics, service: Service) -> Vics
 
 // VIC0's current vector address read: the answer is taken into service.
 fn taking(vics: Vics, inputs: Inputs) -> Found
-    ensures { result ≡ readVector vics inputs Which.Vic0 }
+    ensures { result ≡ read_vector vics inputs Which.Vic0 }
 {
     let rank = vic_answer::raised_rank(vics, inputs);
     let service = vics.service;
@@ -112,7 +112,7 @@ fn taking(vics: Vics, inputs: Inputs) -> Found
 
 // VIC1's: the vector of the last taken, where that came from VIC1.
 fn looking(vics: Vics, inputs: Inputs) -> Found
-    ensures { result ≡ readVector vics inputs Which.Vic1 }
+    ensures { result ≡ read_vector vics inputs Which.Vic1 }
 {
     let service = vics.service;
     let last = vic_service::last_taken(&service);
@@ -132,7 +132,7 @@ fn looking(vics: Vics, inputs: Inputs) -> Found
 
 // A current vector address read.
 fn read_vector(vics: Vics, inputs: Inputs, which: Which) -> Found
-    ensures { result ≡ readVector vics inputs which }
+    ensures { result ≡ read_vector vics inputs which }
 {
     match which {
         Which::Vic0 => taking(vics, inputs),
@@ -142,7 +142,7 @@ fn read_vector(vics: Vics, inputs: Inputs, which: Which) -> Found
 
 // A current vector address written: the last taken ends, where it came from that controller.
 fn write_vector(vics: Vics, which: Which) -> Vics
-    ensures { result ≡ writeVector vics which }
+    ensures { result ≡ write_vector vics which }
 {
     let service = vics.service;
     let last = vic_service::last_taken(&service);

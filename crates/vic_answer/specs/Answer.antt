@@ -2,9 +2,9 @@
 use Rattle.std.specs.Prelude.{ℕ, ◌+◌, ◌-◌, ◌%◌, Bool, ltb, get_or}
 use Rattle.rules.specs.Choice.{if◌then◌else◌}
 use Rattle.vic_controller.specs.declared.Controller.{Controller}
-use Rattle.vic_controller.specs.Controller.{irqStatus}
-use Rattle.vic_rank.specs.Rank.{lowestRank}
-use Rattle.vic_service.specs.Service.{lastTaken}
+use Rattle.vic_controller.specs.Controller.{irq_status}
+use Rattle.vic_rank.specs.Rank.{lowest_rank}
+use Rattle.vic_service.specs.Service.{last_taken}
 use Rattle.vic_pair.specs.declared.Vics.{Vics}
 use Rattle.vic_pair.specs.declared.Inputs.{Inputs}
 use Rattle.vic_pair.specs.declared.Which.{Which}
@@ -13,39 +13,39 @@ use Rattle.vic_answer.specs.declared.Interrupt.{Interrupt}
 use Rattle.vic_answer.specs.declared.Interrupt.TheVariants.{None, Request}
 
 -- the lowest rank that is raised, enabled and selected for IRQ in a controller; 32 where there is none
-abbrev pub raisedIn : Controller → ℕ → ℕ
-raisedIn c inputs = lowestRank c.controls (irqStatus c inputs)
+abbrev pub raised_in : Controller → ℕ → ℕ
+raised_in c inputs = lowest_rank c.controls (irq_status c inputs)
 
 -- the same of the pair, 64 where there is none. 4.7: "interrupts mapped on VIC0 will always have higher priority than interrupts mapped
 -- on VIC1 (hardwired priority)" (docs/DECISIONS.md, D117)
-unfoldable pub raisedRank : Vics → Inputs → ℕ
-raisedRank v i =
-    if ltb (raisedIn v.vic0 i.vic0) 32 then raisedIn v.vic0 i.vic0 else 32 + raisedIn v.vic1 i.vic1
+unfoldable pub raised_rank : Vics → Inputs → ℕ
+raised_rank v i =
+    if ltb (raised_in v.vic0 i.vic0) 32 then raised_in v.vic0 i.vic0 else 32 + raised_in v.vic1 i.vic1
 
 -- the controller that a rank is of, by name and by itself
-abbrev pub whichAt : ℕ → Which
-whichAt rank = if ltb rank 32 then Vic0 else Vic1
+abbrev pub which_at : ℕ → Which
+which_at rank = if ltb rank 32 then Vic0 else Vic1
 
-abbrev pub controllerAt : Vics → ℕ → Controller
-controllerAt v rank = if ltb rank 32 then v.vic0 else v.vic1
+abbrev pub controller_at : Vics → ℕ → Controller
+controller_at v rank = if ltb rank 32 then v.vic0 else v.vic1
 
 -- the vector of a rank: the vector address of its slot, or, for "requests without a vector", its controller's default vector
-unfoldable pub vectorAt : Controller → ℕ → ℕ
-vectorAt c place = if ltb place 16 then get_or c.addresses place 0 else c.default
+unfoldable pub vector_at : Controller → ℕ → ℕ
+vector_at c place = if ltb place 16 then get_or c.addresses place 0 else c.default
 
 -- the input of a rank: the one that its slot names, or, without a slot, the input that stands there
 unfoldable pub input_at : Controller → ℕ → ℕ
 input_at c place = if ltb place 16 then get_or c.controls place 0 % 16 else place - 16
 
 -- the request of a rank: its controller, its input and its vector
-abbrev pub requestAt : Vics → ℕ → Interrupt
-requestAt v rank =
-    Request (whichAt rank) (input_at (controllerAt v rank) (rank % 32)) (vectorAt (controllerAt v rank) (rank % 32))
+abbrev pub request_at : Vics → ℕ → Interrupt
+request_at v rank =
+    Request (which_at rank) (input_at (controller_at v rank) (rank % 32)) (vector_at (controller_at v rank) (rank % 32))
 
 -- there is a raised, enabled IRQ request "above those in service"
 abbrev pub answered : Vics → Inputs → Bool
-answered v i = ltb (raisedRank v i) (lastTaken v.service)
+answered v i = ltb (raised_rank v i) (last_taken v.service)
 
 -- "The IRQ answer is the highest raised, enabled IRQ request above those in service, or none exactly if there is none."
 unfoldable pub irq : Vics → Inputs → Interrupt
-irq v i = if answered v i then requestAt v (raisedRank v i) else None
+irq v i = if answered v i then request_at v (raised_rank v i) else None

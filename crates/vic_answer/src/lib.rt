@@ -1,6 +1,6 @@
 // The IRQ answer of the two interrupt controllers.
 ghost use Rattle.std.specs.Prelude.{◌/◌, ◌%◌, ◌≡◌};
-ghost use Rattle.vic_answer.specs.Answer.{raisedIn, raisedRank, vectorAt, input_at, irq};
+ghost use Rattle.vic_answer.specs.Answer.{raised_in, raised_rank, vector_at, input_at, irq};
 
 use vic_controller::Controller;
 use vic_pair::{Inputs, Vics, Which};
@@ -15,7 +15,7 @@ pub enum Interrupt {
 
 // The lowest rank raised in a controller, or how many it has.
 fn raised_in(c: Controller, inputs: u16) -> usize
-    ensures { result ≡ raisedIn c inputs }
+    ensures { result ≡ raised_in c inputs }
 {
     let controls = c.controls;
     vic_rank::lowest_rank(&controls, c.irq_status(inputs))
@@ -23,7 +23,7 @@ fn raised_in(c: Controller, inputs: u16) -> usize
 
 // The lowest rank raised in the pair, or how many it has.
 pub fn raised_rank(vics: Vics, inputs: Inputs) -> usize
-    ensures { result ≡ raisedRank vics inputs }
+    ensures { result ≡ raised_rank vics inputs }
 {
     let first = raised_in(vics.vic0, inputs.vic0);
     if first < RANKS_EACH {
@@ -34,7 +34,7 @@ pub fn raised_rank(vics: Vics, inputs: Inputs) -> usize
 
 // The vector of a rank of a controller.
 pub fn vector_at(c: Controller, place: usize) -> u32
-    ensures { result ≡ vectorAt c place }
+    ensures { result ≡ vector_at c place }
 {
     if place < 16 {
         return c.address(place);

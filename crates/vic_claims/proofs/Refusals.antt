@@ -22,7 +22,7 @@ use Rattle.vic_registers.specs.declared.Register.TheVariants.{
   Control,
   Unmodelled,
 }
-use Rattle.vic_registers.specs.Access.{registerAt, accessNumber, value_of}
+use Rattle.vic_registers.specs.Access.{register_at, access_number, value_of}
 use Rattle.vic_write.specs.Write.{written}
 use Rattle.vic_pair.specs.declared.Vics.{Vics}
 use Rattle.vic_pair.specs.declared.Inputs.{Inputs}
@@ -31,28 +31,28 @@ use Rattle.vic_pair.specs.declared.Which.TheVariants.{Vic0, Vic1}
 use Rattle.vic.specs.declared.Found.{Found}
 use Rattle.vic.specs.declared.Change.{Change}
 use Rattle.vic_answer.specs.Answer.{answered}
-use Rattle.vic.specs.Access.{controllerOf, withController, levelsOf, readVector, writeVector, read, write}
+use Rattle.vic.specs.Access.{controller_of, with_controller, levels_of, read_vector, write_vector, read, write}
 use Rattle.vic_claims.specs.Refused.{RefusedLeaves}
 
 -- ---- by the register
 
-two-numbers : (a : Register) → (accessNumber a ≡ 0) ⊎ (accessNumber a ≡ 2)
-two-numbers IrqStatus = inl refl
-two-numbers FiqStatus = inl refl
-two-numbers RawStatus = inl refl
-two-numbers Selection = inl refl
-two-numbers Enable = inl refl
-two-numbers EnableClear = inl refl
-two-numbers Software = inl refl
-two-numbers SoftwareClear = inl refl
-two-numbers Protection = inl refl
-two-numbers DefaultVector = inl refl
-two-numbers (Address s) = inl refl
-two-numbers (Control s) = inl refl
-two-numbers Unmodelled = inr refl
+two_numbers : (a : Register) → (access_number a ≡ 0) ⊎ (access_number a ≡ 2)
+two_numbers IrqStatus = inl refl
+two_numbers FiqStatus = inl refl
+two_numbers RawStatus = inl refl
+two_numbers Selection = inl refl
+two_numbers Enable = inl refl
+two_numbers EnableClear = inl refl
+two_numbers Software = inl refl
+two_numbers SoftwareClear = inl refl
+two_numbers Protection = inl refl
+two_numbers DefaultVector = inl refl
+two_numbers (Address s) = inl refl
+two_numbers (Control s) = inl refl
+two_numbers Unmodelled = inr refl
 
 -- only what is not modelled is refused
-unmodelled : (a : Register) → accessNumber a ≡ 2 → a ≡ Unmodelled
+unmodelled : (a : Register) → access_number a ≡ 2 → a ≡ Unmodelled
 unmodelled IrqStatus e = absurd (omega arith)
 unmodelled FiqStatus e = absurd (omega arith)
 unmodelled RawStatus e = absurd (omega arith)
@@ -69,74 +69,74 @@ unmodelled Unmodelled e = refl
 
 -- ---- the current vector address is not refused
 
-vector-read : (v : Vics) (i : Inputs) (w : Which) → (readVector v i w).number ≡ 0
-unfolding readVector
-vector-read v i Vic0 = by_bool (answered v i) (λ e. rw e) (λ e. rw e)
-vector-read v i Vic1 = refl
+vector_read : (v : Vics) (i : Inputs) (w : Which) → (read_vector v i w).number ≡ 0
+unfolding read_vector
+vector_read v i Vic0 = by_bool (answered v i) (λ e. rw e) (λ e. rw e)
+vector_read v i Vic1 = refl
 
 -- ---- an access, at that offset and at any other
 
 module _ (v : Vics) (w : Which) (o : ℕ) where
   module _ (i : Inputs) where
-    read_vector : eqb o 0x030 ≡ true → read v i w o ≡ readVector v i w
+    read_vector_lem : eqb o 0x030 ≡ true → read v i w o ≡ read_vector v i w
     unfolding read
-    read_vector e = rw e
+    read_vector_lem e = rw e
 
-    read-other : eqb o 0x030 ≡ false
-        → read v i w o ≡ record { number = accessNumber (registerAt o); value = value_of (controllerOf v w) (levelsOf i w) (registerAt o); vics = v }
+    read_other : eqb o 0x030 ≡ false
+        → read v i w o ≡ record { number = access_number (register_at o); value = value_of (controller_of v w) (levels_of i w) (register_at o); vics = v }
     unfolding read
-    read-other e = rw e
+    read_other e = rw e
 
-    read-two : ((read v i w o).number ≡ 0) ⊎ ((read v i w o).number ≡ 2)
-    read-two =
+    read_two : ((read v i w o).number ≡ 0) ⊎ ((read v i w o).number ≡ 2)
+    read_two =
         by_bool (eqb o 0x030)
-        (λ e. inl (ap (λ (f : Found). f.number) (read_vector e) ∙ vector-read v i w))
-        (λ e. rw (read-other e) (two-numbers (registerAt o)))
+        (λ e. inl (ap (λ (f : Found). f.number) (read_vector_lem e) ∙ vector_read v i w))
+        (λ e. rw (read_other e) (two_numbers (register_at o)))
 
     -- refused: at another offset, where nothing is modelled
-    read-refused : {C : Type 0} → (read v i w o).number ≡ 2 → (eqb o 0x030 ≡ false → registerAt o ≡ Unmodelled → C) → C
-    read-refused h f =
+    read_refused : {C : Type 0} → (read v i w o).number ≡ 2 → (eqb o 0x030 ≡ false → register_at o ≡ Unmodelled → C) → C
+    read_refused h f =
         by_bool (eqb o 0x030)
-        (λ e. let z = ap (λ (r : Found). r.number) (read_vector e) ∙ vector-read v i w in absurd (omega arith))
-        (λ e. f e (unmodelled (registerAt o) (sym (ap (λ (r : Found). r.number) (read-other e)) ∙ h)))
+        (λ e. let z = ap (λ (r : Found). r.number) (read_vector_lem e) ∙ vector_read v i w in absurd (omega arith))
+        (λ e. f e (unmodelled (register_at o) (sym (ap (λ (r : Found). r.number) (read_other e)) ∙ h)))
 
   module _ (x : ℕ) where
-    write_vector : eqb o 0x030 ≡ true → write v w o x ≡ record { number = 0; vics = writeVector v w }
+    write_vector_lem : eqb o 0x030 ≡ true → write v w o x ≡ record { number = 0; vics = write_vector v w }
     unfolding write
-    write_vector e = rw e
+    write_vector_lem e = rw e
 
-    write-other : eqb o 0x030 ≡ false
-        → write v w o x ≡ record { number = accessNumber (registerAt o); vics = withController v w (written (controllerOf v w) (registerAt o) x) }
+    write_other : eqb o 0x030 ≡ false
+        → write v w o x ≡ record { number = access_number (register_at o); vics = with_controller v w (written (controller_of v w) (register_at o) x) }
     unfolding write
-    write-other e = rw e
+    write_other e = rw e
 
     write_two : ((write v w o x).number ≡ 0) ⊎ ((write v w o x).number ≡ 2)
     write_two =
-        by_bool (eqb o 0x030) (λ e. inl (ap (λ (f : Change). f.number) (write_vector e))) (λ e. rw (write-other e) (two-numbers (registerAt o)))
+        by_bool (eqb o 0x030) (λ e. inl (ap (λ (f : Change). f.number) (write_vector_lem e))) (λ e. rw (write_other e) (two_numbers (register_at o)))
 
-    write-refused : {C : Type 0} → (write v w o x).number ≡ 2 → (eqb o 0x030 ≡ false → registerAt o ≡ Unmodelled → C) → C
-    write-refused h f =
+    write_refused : {C : Type 0} → (write v w o x).number ≡ 2 → (eqb o 0x030 ≡ false → register_at o ≡ Unmodelled → C) → C
+    write_refused h f =
         by_bool (eqb o 0x030)
-        (λ e. let z = ap (λ (r : Change). r.number) (write_vector e) in absurd (omega arith))
-        (λ e. f e (unmodelled (registerAt o) (sym (ap (λ (r : Change). r.number) (write-other e)) ∙ h)))
+        (λ e. let z = ap (λ (r : Change). r.number) (write_vector_lem e) in absurd (omega arith))
+        (λ e. f e (unmodelled (register_at o) (sym (ap (λ (r : Change). r.number) (write_other e)) ∙ h)))
 
-same-controller : (v : Vics) (w : Which) → withController v w (controllerOf v w) ≡ v
-same-controller v Vic0 = refl
-same-controller v Vic1 = refl
+same_controller : (v : Vics) (w : Which) → with_controller v w (controller_of v w) ≡ v
+same_controller v Vic0 = refl
+same_controller v Vic1 = refl
 
-pub refused-leaves : RefusedLeaves
-refused-leaves =
+pub refused_leaves : RefusedLeaves
+refused_leaves =
     record {
-      read_number = λ v i w o. read-two v w o i;
-      write-number = λ v w o x. write_two v w o x;
-      read-value = λ v i w o h.
-          read-refused v w o i h
-          (λ e u. ap (λ (r : Found). r.value) (read-other v w o i e) ∙ ap (value_of (controllerOf v w) (levelsOf i w)) u);
-      read-leaves = λ v i w o h. read-refused v w o i h (λ e u. ap (λ (r : Found). r.vics) (read-other v w o i e));
-      write-leaves = λ v w o x h.
-          write-refused v w o x h
+      read_number = λ v i w o. read_two v w o i;
+      write_number_lem = λ v w o x. write_two v w o x;
+      read_value = λ v i w o h.
+          read_refused v w o i h
+          (λ e u. ap (λ (r : Found). r.value) (read_other v w o i e) ∙ ap (value_of (controller_of v w) (levels_of i w)) u);
+      read_leaves = λ v i w o h. read_refused v w o i h (λ e u. ap (λ (r : Found). r.vics) (read_other v w o i e));
+      write_leaves = λ v w o x h.
+          write_refused v w o x h
           (λ e u.
-          ap (λ (r : Change). r.vics) (write-other v w o x e)
-          ∙ ap (λ (a : Register). withController v w (written (controllerOf v w) a x)) u
-          ∙ same-controller v w);
+          ap (λ (r : Change). r.vics) (write_other v w o x e)
+          ∙ ap (λ (a : Register). with_controller v w (written (controller_of v w) a x)) u
+          ∙ same_controller v w);
     }

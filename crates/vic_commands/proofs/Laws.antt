@@ -9,69 +9,69 @@ use Rattle.vic_pair.specs.declared.Vics.{Vics}
 use Rattle.vic_pair.specs.declared.Inputs.{Inputs}
 use Rattle.vic_pair.specs.declared.Which.{Which}
 use Rattle.vic_pair.specs.declared.Which.TheVariants.{Vic0, Vic1}
-use Rattle.vic_pair.specs.Vics.{reset as resetVics, low, withLine, fiq as fiqHigh}
+use Rattle.vic_pair.specs.Vics.{reset as reset_vics, low, with_line, fiq as fiq_high}
 use Rattle.vic_answer.specs.declared.Interrupt.{Interrupt}
-use Rattle.vic_answer.specs.Answer.{irq as irqAnswer}
+use Rattle.vic_answer.specs.Answer.{irq as irq_answer}
 use Rattle.vic.specs.declared.Found.{Found}
 use Rattle.vic.specs.declared.Change.{Change}
-use Rattle.vic.specs.Access.{read as readRegister, write as writeRegister}
+use Rattle.vic.specs.Access.{read as read_register, write as write_register}
 use Rattle.vic_script.specs.declared.VicCommand.{VicCommand}
 use Rattle.vic_script.specs.declared.VicCommand.TheVariants.{Read, Write, Inputs as SetInputs, Irq, Fiq}
-use Rattle.vic_lines.specs.VicLines.{vreadSays, vwriteSays, inputsSays, irqSays, fiqSays}
+use Rattle.vic_lines.specs.VicLines.{vread_says, vwrite_says, inputs_says, irq_says, fiq_says}
 use Rattle.vic_commands.specs.declared.Controllers.{Controllers}
-use Rattle.vic_commands.specs.VicCommands.{beside, reset, whichOf, levelsSet, vread, vwrite, inputs, irq, fiq, answerTo, Given, given, tells}
+use Rattle.vic_commands.specs.VicCommands.{beside, reset, which_of, levels_set, vread, vwrite, inputs, irq, fiq, answer_to, Given, given, tells}
 
-pub reset-both : (v : Vics) (i : Inputs) → v ≡ resetVics → i ≡ low → beside v i ≡ reset
-reset-both v i e f = λ j. beside (e j) (f j)
+pub reset_both : (v : Vics) (i : Inputs) → v ≡ reset_vics → i ≡ low → beside v i ≡ reset
+reset_both v i e f = λ j. beside (e j) (f j)
 
-pub named-first : (n : ℕ) → n ≡ 0 → Vic0 ≡ whichOf n
-named-first n e = rw (eq-eqb n 0 e)
+pub named_first : (n : ℕ) → n ≡ 0 → Vic0 ≡ which_of n
+named_first n e = rw (eq-eqb n 0 e)
 
-pub named-second : (n : ℕ) → (n ≡ 0 → ⊥) → Vic1 ≡ whichOf n
-named-second n h = rw (ne_eqb n 0 h)
+pub named_second : (n : ℕ) → (n ≡ 0 → ⊥) → Vic1 ≡ which_of n
+named_second n h = rw (ne_eqb n 0 h)
 
 module _ (c : Controllers) (t t' : List ℕ) (at : ℕ) where
-  pub vread-is : (line : Bool) (w : Which) (o : ℕ) (i : Inputs) (f : Found) (end : ℕ) → i ≡ withLine c.inputs line
-      → f ≡ readRegister c.vics i w o → written end t' ≡ put t at (vreadSays f.number f.value)
+  pub vread_is : (line : Bool) (w : Which) (o : ℕ) (i : Inputs) (f : Found) (end : ℕ) → i ≡ with_line c.inputs line
+      → f ≡ read_register c.vics i w o → written end t' ≡ put t at (vread_says f.number f.value)
       → given (record { controllers = beside f.vics c.inputs; end = end }) t' ≡ tells (vread c line w o) t at
   unfolding vread
-  vread-is line w o i f end e g h = rw (← e, ← g) (λ j. record { controllers = beside f.vics c.inputs; text = h j })
+  vread_is line w o i f end e g h = rw (← e, ← g) (λ j. record { controllers = beside f.vics c.inputs; text = h j })
 
-  pub vwrite-is : (w : Which) (o v : ℕ) (f : Change) (end : ℕ) → f ≡ writeRegister c.vics w o v
-      → written end t' ≡ put t at (vwriteSays f.number)
+  pub vwrite_is : (w : Which) (o v : ℕ) (f : Change) (end : ℕ) → f ≡ write_register c.vics w o v
+      → written end t' ≡ put t at (vwrite_says f.number)
       → given (record { controllers = beside f.vics c.inputs; end = end }) t' ≡ tells (vwrite c w o v) t at
   unfolding vwrite
-  vwrite-is w o v f end g h = rw (← g) (λ j. record { controllers = beside f.vics c.inputs; text = h j })
+  vwrite_is w o v f end g h = rw (← g) (λ j. record { controllers = beside f.vics c.inputs; text = h j })
 
-  pub inputs-is : (w : Which) (v : ℕ) (i : Inputs) (end : ℕ) → i ≡ levelsSet c.inputs w v → written end t' ≡ put t at inputsSays
+  pub inputs_is : (w : Which) (v : ℕ) (i : Inputs) (end : ℕ) → i ≡ levels_set c.inputs w v → written end t' ≡ put t at inputs_says
       → given (record { controllers = beside c.vics i; end = end }) t' ≡ tells (inputs c w v) t at
   unfolding inputs
-  inputs-is w v i end e h = λ j. record { controllers = beside c.vics (e j); text = h j }
+  inputs_is w v i end e h = λ j. record { controllers = beside c.vics (e j); text = h j }
 
-  pub irq-is : (line : Bool) (i : Inputs) (a : Interrupt) (end : ℕ) → i ≡ withLine c.inputs line → a ≡ irqAnswer c.vics i
-      → written end t' ≡ put t at (irqSays a) → given (record { controllers = c; end = end }) t' ≡ tells (irq c line) t at
+  pub irq_is : (line : Bool) (i : Inputs) (a : Interrupt) (end : ℕ) → i ≡ with_line c.inputs line → a ≡ irq_answer c.vics i
+      → written end t' ≡ put t at (irq_says a) → given (record { controllers = c; end = end }) t' ≡ tells (irq c line) t at
   unfolding irq
-  irq-is line i a end e g h = rw (← e, ← g) (λ j. record { controllers = c; text = h j })
+  irq_is line i a end e g h = rw (← e, ← g) (λ j. record { controllers = c; text = h j })
 
-  pub fiq-is : (line : Bool) (i : Inputs) (b : Bool) (end : ℕ) → i ≡ withLine c.inputs line → b ≡ fiqHigh c.vics i
-      → written end t' ≡ put t at (fiqSays b) → given (record { controllers = c; end = end }) t' ≡ tells (fiq c line) t at
+  pub fiq_is : (line : Bool) (i : Inputs) (b : Bool) (end : ℕ) → i ≡ with_line c.inputs line → b ≡ fiq_high c.vics i
+      → written end t' ≡ put t at (fiq_says b) → given (record { controllers = c; end = end }) t' ≡ tells (fiq c line) t at
   unfolding fiq
-  fiq-is line i b end e g h = rw (← e, ← g) (λ j. record { controllers = c; text = h j })
+  fiq_is line i b end e g h = rw (← e, ← g) (λ j. record { controllers = c; text = h j })
 
 -- a call by its command
 module _ (c : Controllers) (line : Bool) (n a b : ℕ) (t : List ℕ) (at : ℕ) (x : Given) (k : VicCommand) where
-  module _ (w : Which) (e : w ≡ whichOf n) where
-    pub called-read : k ≡ Read → x ≡ tells (vread c line w a) t at → x ≡ tells (answerTo k c line n a b) t at
-    called-read f h = rw (f, ← e) h
+  module _ (w : Which) (e : w ≡ which_of n) where
+    pub called_read : k ≡ Read → x ≡ tells (vread c line w a) t at → x ≡ tells (answer_to k c line n a b) t at
+    called_read f h = rw (f, ← e) h
 
-    pub called-write : k ≡ Write → x ≡ tells (vwrite c w a b) t at → x ≡ tells (answerTo k c line n a b) t at
-    called-write f h = rw (f, ← e) h
+    pub called_write : k ≡ Write → x ≡ tells (vwrite c w a b) t at → x ≡ tells (answer_to k c line n a b) t at
+    called_write f h = rw (f, ← e) h
 
-    pub called-inputs : k ≡ SetInputs → x ≡ tells (inputs c w a) t at → x ≡ tells (answerTo k c line n a b) t at
-    called-inputs f h = rw (f, ← e) h
+    pub called_inputs : k ≡ SetInputs → x ≡ tells (inputs c w a) t at → x ≡ tells (answer_to k c line n a b) t at
+    called_inputs f h = rw (f, ← e) h
 
-  pub called-irq : k ≡ Irq → x ≡ tells (irq c line) t at → x ≡ tells (answerTo k c line n a b) t at
-  called-irq f h = rw f h
+  pub called_irq : k ≡ Irq → x ≡ tells (irq c line) t at → x ≡ tells (answer_to k c line n a b) t at
+  called_irq f h = rw f h
 
-  pub called-fiq : k ≡ Fiq → x ≡ tells (fiq c line) t at → x ≡ tells (answerTo k c line n a b) t at
-  called-fiq f h = rw f h
+  pub called_fiq : k ≡ Fiq → x ≡ tells (fiq c line) t at → x ≡ tells (answer_to k c line n a b) t at
+  called_fiq f h = rw f h

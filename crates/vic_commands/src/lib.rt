@@ -1,6 +1,6 @@
 // The console's commands of the interrupt controllers. Each writes its line.
 ghost use Rattle.std.specs.Prelude.{◌≡◌};
-ghost use Rattle.vic_commands.specs.VicCommands.{reset, whichOf, levelsSet, vread, vwrite, inputs, irq, fiq, answerTo, given, tells};
+ghost use Rattle.vic_commands.specs.VicCommands.{reset, which_of, levels_set, vread, vwrite, inputs, irq, fiq, answer_to, given, tells};
 
 use vic_pair::{Inputs, Vics, Which};
 use vic_script::{VicCall, VicCommand};
@@ -33,7 +33,7 @@ impl Controllers {
 
 // The controller that a number names.
 fn which_of(n: u32) -> Which
-    ensures { result ≡ whichOf n }
+    ensures { result ≡ which_of n }
 {
     if n == 0 { Which::Vic0 } else { Which::Vic1 }
 }
@@ -82,7 +82,7 @@ fn vwrite(
 
 // The levels with those of one controller set.
 fn levels_set(set: Inputs, which: Which, value: u32) -> Inputs
-    ensures { result ≡ levelsSet set which value }
+    ensures { result ≡ levels_set set which value }
 {
     let level = (value % 0x1_0000) as u16;
     match which {
@@ -136,7 +136,7 @@ fn fiq(c: Controllers, line: bool, text: &mut [u8], at: usize) -> VicTold
 
 // Makes one of them, with ENET's line as it is.
 pub fn called(c: Controllers, line: bool, call: VicCall, text: &mut [u8], at: usize) -> VicTold
-    ensures { given result text.new ≡ tells (answerTo call.command c line call.vic call.a call.b) text.old at }
+    ensures { given result text.new ≡ tells (answer_to call.command c line call.vic call.a call.b) text.old at }
 {
     let which = which_of(call.vic);
     let command = call.command;

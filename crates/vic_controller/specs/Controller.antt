@@ -22,17 +22,17 @@ abbrev pub reset : Controller
 reset = made 0 0 0 false 0 (replicate 16 0) (replicate 16 0)
 
 -- 4.10.3: "the status of the interrupt sources (and software interrupts)"; the sources are levels, given with each call
-abbrev pub rawStatus : Controller → ℕ → ℕ
-rawStatus c inputs = bit_or inputs c.software
+abbrev pub raw_status : Controller → ℕ → ℕ
+raw_status c inputs = bit_or inputs c.software
 
 -- the requests that are raised and enabled: 4.10.5, "0: Interrupt disabled (masked)"
-abbrev pub enabledStatus : Controller → ℕ → ℕ
-enabledStatus c inputs = bit_and (rawStatus c inputs) c.enable
+abbrev pub enabled_status : Controller → ℕ → ℕ
+enabled_status c inputs = bit_and (raw_status c inputs) c.enable
 
 -- 4.10.1: "set by hardware after masking by the VICx_INTER and VICx_INTSR registers"; 4.10.4, "0: IRQ"
-abbrev pub irqStatus : Controller → ℕ → ℕ
-irqStatus c inputs = bit_and (enabledStatus c inputs) (2 ^ 16 - 1 - c.selection)
+abbrev pub irq_status : Controller → ℕ → ℕ
+irq_status c inputs = bit_and (enabled_status c inputs) (2 ^ 16 - 1 - c.selection)
 
 -- 4.10.2, in the same words; 4.10.4, "1: FIQ"
-abbrev pub fiqStatus : Controller → ℕ → ℕ
-fiqStatus c inputs = bit_and (enabledStatus c inputs) c.selection
+abbrev pub fiq_status : Controller → ℕ → ℕ
+fiq_status c inputs = bit_and (enabled_status c inputs) c.selection

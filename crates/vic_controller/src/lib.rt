@@ -1,7 +1,7 @@
 // One of the two interrupt controllers by itself (RM0006, chapter 4): what it holds, the constants of its registers, reset, and its
 // status words. Not modelled: the modes of the CPU, which the protection bit is for.
 ghost use Rattle.std.specs.Prelude.{◌≡◌, get_or};
-ghost use Rattle.vic_controller.specs.Controller.{reset, irqStatus, fiqStatus};
+ghost use Rattle.vic_controller.specs.Controller.{reset, irq_status, fiq_status};
 
 // Software interrupts, enable and selection with a bit for each input, protection, the default vector, and the vector addresses
 // and vector controls of the sixteen slots.
@@ -81,14 +81,14 @@ impl Controller {
 
     // The IRQ status, with the levels of the sixteen inputs.
     pub fn irq_status(self, inputs: u16) -> u16
-        ensures { result ≡ irqStatus self inputs }
+        ensures { result ≡ irq_status self inputs }
     {
         (inputs | self.software) & self.enable & !self.selection
     }
 
     // The FIQ status.
     pub fn fiq_status(self, inputs: u16) -> u16
-        ensures { result ≡ fiqStatus self inputs }
+        ensures { result ≡ fiq_status self inputs }
     {
         (inputs | self.software) & self.enable & self.selection
     }

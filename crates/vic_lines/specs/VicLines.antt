@@ -2,29 +2,29 @@
 use Rattle.std.specs.Prelude.{ℕ, Bool, List}
 use Rattle.words.specs.Words.{characters}
 use Rattle.replies.specs.Replies.{said, either, numbered}
-use Rattle.reports.specs.Reports.{read as readLine}
+use Rattle.reports.specs.Reports.{read as read_line}
 use Rattle.vic_pair.specs.declared.Which.TheVariants.{Vic0, Vic1}
 use Rattle.vic_answer.specs.declared.Interrupt.{Interrupt}
 use Rattle.vic_answer.specs.declared.Interrupt.TheVariants.{None, Request}
 
 -- `vread VIC OFFSET`: `vread N VALUE`
-abbrev pub vreadSays : ℕ → ℕ → List ℕ
-vreadSays n value = readLine (characters "vread") n value
+abbrev pub vread_says : ℕ → ℕ → List ℕ
+vread_says n value = read_line (characters "vread") n value
 
 -- `vwrite VIC OFFSET VALUE`: `vwrite N`
-abbrev pub vwriteSays : ℕ → List ℕ
-vwriteSays n = numbered (characters "vwrite") n
+abbrev pub vwrite_says : ℕ → List ℕ
+vwrite_says n = numbered (characters "vwrite") n
 
 -- `inputs VIC VALUE`: `inputs`
-abbrev pub inputsSays : List ℕ
-inputsSays = said (characters "inputs")
+abbrev pub inputs_says : List ℕ
+inputs_says = said (characters "inputs")
 
 -- `irq`: `irq none`, or `irq VIC INPUT ADDRESS`
-unfoldable pub irqSays : Interrupt → List ℕ
-irqSays None = said (characters "irq none")
-irqSays (Request Vic0 input vector) = readLine (characters "irq 0") input vector
-irqSays (Request Vic1 input vector) = readLine (characters "irq 1") input vector
+unfoldable pub irq_says : Interrupt → List ℕ
+irq_says None = said (characters "irq none")
+irq_says (Request Vic0 input vector) = read_line (characters "irq 0") input vector
+irq_says (Request Vic1 input vector) = read_line (characters "irq 1") input vector
 
 -- `fiq`: `fiq 0` or `fiq 1`
-abbrev pub fiqSays : Bool → List ℕ
-fiqSays high = either high (characters "fiq 1") (characters "fiq 0")
+abbrev pub fiq_says : Bool → List ℕ
+fiq_says high = either high (characters "fiq 1") (characters "fiq 0")

@@ -1,14 +1,14 @@
 // The line that tells the IRQ answer (docs/CONSOLE.md).
 ghost use Rattle.std.specs.Prelude.{◌≡◌};
 ghost use Rattle.text.specs.Text.{written, put};
-ghost use Rattle.vic_lines.specs.VicLines.{irqSays};
+ghost use Rattle.vic_lines.specs.VicLines.{irq_says};
 
 use vic_answer::Interrupt;
 use vic_pair::Which;
 
 // Writes the IRQ answer.
 pub fn irq(text: &mut [u8], at: usize, answer: Interrupt) -> usize
-    ensures { written result text.new ≡ put text.old at (irqSays answer) }
+    ensures { written result text.new ≡ put text.old at (irq_says answer) }
 {
     match answer {
         Interrupt::None => replies::said(text, at, b"irq none"),

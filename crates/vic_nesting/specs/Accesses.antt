@@ -16,6 +16,6 @@ abbrev pub after : Vics → Access → Vics
 after v (reads i w offset) = (read v i w offset).vics
 after v (writes w offset value) = (write v w offset value).vics
 
-abbrev pub afterAll : Vics → List Access → Vics
-afterAll v [] = v
-afterAll v (a ∷ l) = afterAll (after v a) l
+abbrev pub after_all : Vics → List Access → Vics
+after_all v [] = v
+after_all v (a ∷ l) = after_all (after v a) l

@@ -4,9 +4,9 @@ use Rattle.vic_pair.specs.declared.Vics.{Vics}
 use Rattle.vic_pair.specs.declared.Inputs.{Inputs}
 use Rattle.vic_pair.specs.declared.Which.{Which}
 use Rattle.vic_pair.specs.declared.Which.TheVariants.{Vic0}
-use Rattle.vic_answer.specs.Answer.{raisedRank, answered}
-use Rattle.vic.specs.Access.{cameFrom}
-use Rattle.vic_nesting.specs.Accesses.{Access, reads, writes, after, afterAll}
+use Rattle.vic_answer.specs.Answer.{raised_rank, answered}
+use Rattle.vic.specs.Access.{came_from}
+use Rattle.vic_nesting.specs.Accesses.{Access, reads, writes, after, after_all}
 
 -- a request taken, and one ended
 abbrev pub take : Inputs → Access
@@ -21,8 +21,8 @@ pub data Nested : Vics → List Access → Type 0 where
   none : (v : Vics) → Nested v []
   other : (v : Vics) (a : Access) (l : List Access) → (after v a).service ≡ v.service → Nested (after v a) l → Nested v (a ∷ l)
   served : (v : Vics) (i : Inputs) (w : Which) (value : ℕ) (inner l : List Access) → answered v i ≡ true
-      → cameFrom w (raisedRank v i) ≡ true → Nested (after v (take i)) inner
-      → Nested (after (afterAll (after v (take i)) inner) (end w value)) l → Nested v (take i ∷ inner ++ end w value ∷ l)
+      → came_from w (raised_rank v i) ≡ true → Nested (after v (take i)) inner
+      → Nested (after (after_all (after v (take i)) inner) (end w value)) l → Nested v (take i ∷ inner ++ end w value ∷ l)
 
 -- every access of a list is a read or a write of a current vector address
 abbrev pub AtVector : Access → Type 0
@@ -35,12 +35,12 @@ OnlyVectors (a ∷ l) = AtVector a × OnlyVectors l
 
 pub record GivesBack : Type 0 where
   -- any nesting leaves in service what was in service
-  pub nested : (v : Vics) (l : List Access) → Nested v l → (afterAll v l).service ≡ v.service
+  pub nested : (v : Vics) (l : List Access) → Nested v l → (after_all v l).service ≡ v.service
   -- and one with no other access in it leaves the whole state
-  pub whole : (v : Vics) (l : List Access) → Nested v l → OnlyVectors l → afterAll v l ≡ v
+  pub whole : (v : Vics) (l : List Access) → Nested v l → OnlyVectors l → after_all v l ≡ v
   -- so does one taken and ended at once
-  pub at_once : (v : Vics) (i : Inputs) (w : Which) (value : ℕ) → answered v i ≡ true → cameFrom w (raisedRank v i) ≡ true
+  pub at_once : (v : Vics) (i : Inputs) (w : Which) (value : ℕ) → answered v i ≡ true → came_from w (raised_rank v i) ≡ true
       → after (after v (take i)) (end w value) ≡ v
   -- taking and ending touch no register
-  pub take-keeps : (v : Vics) (i : Inputs) → ((after v (take i)).vic0 ≡ v.vic0) × ((after v (take i)).vic1 ≡ v.vic1)
-  pub end-keeps : (v : Vics) (w : Which) (value : ℕ) → ((after v (end w value)).vic0 ≡ v.vic0) × ((after v (end w value)).vic1 ≡ v.vic1)
+  pub take_keeps : (v : Vics) (i : Inputs) → ((after v (take i)).vic0 ≡ v.vic0) × ((after v (take i)).vic1 ≡ v.vic1)
+  pub end_keeps : (v : Vics) (w : Which) (value : ℕ) → ((after v (end w value)).vic0 ≡ v.vic0) × ((after v (end w value)).vic1 ≡ v.vic1)

@@ -3,7 +3,7 @@
 use Rattle.std.specs.Prelude.{List}
 use Rattle.vic_pair.specs.Vics.{reset}
 use Rattle.vic_claims.specs.Requests.{Sized}
-use Rattle.vic_nesting.specs.Accesses.{Access, afterAll}
+use Rattle.vic_nesting.specs.Accesses.{Access, after_all}
 
 abbrev pub AlwaysSized : Type 0
-AlwaysSized = (l : List Access) → Sized (afterAll reset l)
+AlwaysSized = (l : List Access) → Sized (after_all reset l)

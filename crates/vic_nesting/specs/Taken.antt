@@ -3,27 +3,27 @@
 -- Assumes nothing.
 use Rattle.std.specs.Prelude.{ℕ, ◌<◌, ◌≡◌, Bool, List, [], ◌∷◌, eqb}
 use Rattle.rules.specs.Choice.{if◌then◌else◌}
-use Rattle.vic_service.specs.Service.{idle, taken, lastTaken}
+use Rattle.vic_service.specs.Service.{idle, taken, last_taken}
 use Rattle.vic_pair.specs.declared.Vics.{Vics}
 use Rattle.vic_pair.specs.declared.Which.{Which}
 use Rattle.vic_pair.specs.declared.Which.TheVariants.{Vic0, Vic1}
 use Rattle.vic_pair.specs.Vics.{reset}
-use Rattle.vic_answer.specs.Answer.{raisedRank, answered}
-use Rattle.vic.specs.Access.{cameFrom}
+use Rattle.vic_answer.specs.Answer.{raised_rank, answered}
+use Rattle.vic.specs.Access.{came_from}
 use Rattle.vic_nesting.specs.Accesses.{Access, reads, writes, after}
 
 -- ---- the ranks taken and not ended, the last taken first
 
 -- "writing it ends the last taken", where that came from the controller written
-abbrev pub withoutLast : Which → List ℕ → List ℕ
-withoutLast w [] = []
-withoutLast w (rank ∷ l) = if cameFrom w rank then l else rank ∷ l
+abbrev pub without_last : Which → List ℕ → List ℕ
+without_last w [] = []
+without_last w (rank ∷ l) = if came_from w rank then l else rank ∷ l
 
 -- what an access does to them; v is the pair before it
 abbrev pub told : Vics → List ℕ → Access → List ℕ
-told v l (reads i Vic0 offset) = if eqb offset 0x030 then (if answered v i then raisedRank v i ∷ l else l) else l
+told v l (reads i Vic0 offset) = if eqb offset 0x030 then (if answered v i then raised_rank v i ∷ l else l) else l
 told v l (reads i Vic1 offset) = l
-told v l (writes w offset value) = if eqb offset 0x030 then withoutLast w l else l
+told v l (writes w offset value) = if eqb offset 0x030 then without_last w l else l
 
 -- how far a list of accesses has come: the pair, and the ranks taken and not ended
 pub record Progress : Type 0 where
@@ -60,7 +60,7 @@ marked (rank ∷ l) = taken (marked l) rank
 pub record Tells (p : Progress) : Type 0 where
   pub service : p.vics.service ≡ marked p.ranks
   pub falling : Falling p.ranks
-  pub last : lastTaken p.vics.service ≡ last_of p.ranks
+  pub last : last_taken p.vics.service ≡ last_of p.ranks
 
 abbrev pub LastTaken : Type 0
 LastTaken = (l : List Access) → Tells (run begin l)

@@ -1,7 +1,7 @@
 // The two interrupt controllers as a pair (RM0006, chapter 4): their state and reset, their inputs with ENET's line among them, and
 // FIQ.
 ghost use Rattle.std.specs.Prelude.{◌≡◌};
-ghost use Rattle.vic_pair.specs.Vics.{reset, low, withLine, fiq};
+ghost use Rattle.vic_pair.specs.Vics.{reset, low, with_line, fiq};
 
 use vic_controller::Controller;
 use vic_service::Service;
@@ -69,7 +69,7 @@ impl Inputs {
 
     // These inputs with ENET's line in its place, whatever stood there.
     pub fn with_line(self, line: bool) -> Inputs
-        ensures { result ≡ withLine self line }
+        ensures { result ≡ with_line self line }
     {
         if line {
             return Inputs {

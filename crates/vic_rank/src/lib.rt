@@ -2,7 +2,7 @@
 ghost use Rattle.std.specs.Prelude.{min, ◌<◌, ◌≡◌};
 ghost use Rattle.rules.specs.Choice.{if◌then◌else◌};
 ghost use Rattle.rules.specs.Bit.{bit};
-ghost use Rattle.vic_rank.specs.Rank.{names, slot_of, rankIn, lowestRank};
+ghost use Rattle.vic_rank.specs.Rank.{names, slot_of, rank_in, lowest_rank};
 
 // A vector control is enabled and names an input.
 fn names(input: u8, control: u8) -> bool
@@ -30,7 +30,7 @@ fn slot_of(controls: &[u8], input: u8) -> usize
 
 // An input's rank.
 fn rank_in(controls: &[u8], input: u8) -> usize
-    ensures { result ≡ rankIn controls.now input }
+    ensures { result ≡ rank_in controls.now input }
 {
     let slot = slot_of(controls, input);
     if slot < 16 {
@@ -42,7 +42,7 @@ fn rank_in(controls: &[u8], input: u8) -> usize
 // The lower of a rank and that of an input, where its request is raised.
 fn with_input(controls: &[u8], status: u16, input: u8, lowest: usize) -> usize
     requires { input < 16 }
-    ensures { result ≡ (if bit input status then min (rankIn controls.now input) lowest else lowest) }
+    ensures { result ≡ (if bit input status then min (rank_in controls.now input) lowest else lowest) }
 {
     if (status >> input) % 2 != 1 {
         return lowest;
@@ -53,7 +53,7 @@ fn with_input(controls: &[u8], status: u16, input: u8, lowest: usize) -> usize
 
 // The lowest rank that is raised, 32 where none is.
 pub fn lowest_rank(controls: &[u8], status: u16) -> usize
-    ensures { result ≡ lowestRank controls.now status }
+    ensures { result ≡ lowest_rank controls.now status }
 {
     let mut lowest: usize = 32;
     let mut input: u8 = 0;

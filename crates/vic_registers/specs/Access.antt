@@ -19,7 +19,7 @@ use Rattle.vic_registers.specs.declared.Register.TheVariants.{
   Control,
   Unmodelled,
 }
-use Rattle.vic_controller.specs.Controller.{rawStatus, irqStatus, fiqStatus}
+use Rattle.vic_controller.specs.Controller.{raw_status, irq_status, fiq_status}
 
 -- the offset of a register that each of the sixteen slots has, slot 0 at `first`, each slot 4 further (Table 14), and its slot
 unfoldable pub slot_at : ℕ → ℕ → Bool
@@ -29,8 +29,8 @@ unfoldable pub slot_of : ℕ → ℕ → ℕ
 slot_of first offset = (offset - first) / 4
 
 -- Table 14, but for 030h, the current vector address: what a read or a write of it does goes by both controllers
-unfoldable pub registerAt : ℕ → Register
-registerAt offset =
+unfoldable pub register_at : ℕ → Register
+register_at offset =
     if slot_at 0x100 offset then Address (slot_of 0x100 offset) else
     if slot_at 0x200 offset then Control (slot_of 0x200 offset) else
     if eqb offset 0x000 then IrqStatus else
@@ -46,27 +46,27 @@ registerAt offset =
     Unmodelled
 
 -- 01, row 2, register not modelled: "value 0, nothing changed"; a read and a write have no other refusal
-abbrev pub accessNumber : Register → ℕ
-accessNumber IrqStatus = 0
-accessNumber FiqStatus = 0
-accessNumber RawStatus = 0
-accessNumber Selection = 0
-accessNumber Enable = 0
-accessNumber EnableClear = 0
-accessNumber Software = 0
-accessNumber SoftwareClear = 0
-accessNumber Protection = 0
-accessNumber DefaultVector = 0
-accessNumber (Address slot) = 0
-accessNumber (Control slot) = 0
-accessNumber Unmodelled = 2
+abbrev pub access_number : Register → ℕ
+access_number IrqStatus = 0
+access_number FiqStatus = 0
+access_number RawStatus = 0
+access_number Selection = 0
+access_number Enable = 0
+access_number EnableClear = 0
+access_number Software = 0
+access_number SoftwareClear = 0
+access_number Protection = 0
+access_number DefaultVector = 0
+access_number (Address slot) = 0
+access_number (Control slot) = 0
+access_number Unmodelled = 2
 
 -- what a register reads as, with the levels of the inputs. 4.10, of a register that can only be written: "Reading the bit returns the
 -- reset value", which 4.10.6 and 4.10.8 leave undefined: 0 here (docs/DECISIONS.md, D119)
 abbrev pub value_of : Controller → ℕ → Register → ℕ
-value_of c inputs IrqStatus = irqStatus c inputs
-value_of c inputs FiqStatus = fiqStatus c inputs
-value_of c inputs RawStatus = rawStatus c inputs
+value_of c inputs IrqStatus = irq_status c inputs
+value_of c inputs FiqStatus = fiq_status c inputs
+value_of c inputs RawStatus = raw_status c inputs
 value_of c inputs Selection = c.selection
 value_of c inputs Enable = c.enable
 value_of c inputs EnableClear = 0

@@ -1,6 +1,6 @@
 // The registers of an interrupt controller: which stands at an offset, and what it reads as.
 ghost use Rattle.std.specs.Prelude.{◌≡◌};
-ghost use Rattle.vic_registers.specs.Access.{slot_at, slot_of, registerAt, accessNumber, value_of};
+ghost use Rattle.vic_registers.specs.Access.{slot_at, slot_of, register_at, access_number, value_of};
 
 use vic_controller::Controller;
 
@@ -49,7 +49,7 @@ fn slot_of(first: u32, offset: u32) -> usize
 impl Register {
     // The register at an offset.
     pub fn at(offset: u32) -> Register
-        ensures { result ≡ registerAt offset }
+        ensures { result ≡ register_at offset }
     {
         if slot_at(Controller::VA0R, offset) {
             return Register::Address(slot_of(Controller::VA0R, offset));
@@ -74,7 +74,7 @@ impl Register {
 
     // The refusal of an access, 2, or 0.
     pub fn access_number(self) -> u32
-        ensures { result ≡ accessNumber self }
+        ensures { result ≡ access_number self }
     {
         match self {
             Register::IrqStatus => answer::DONE,

@@ -22,8 +22,8 @@ abbrev pub none : Number
 none = Is 0
 
 -- VIC: "`0` or `1`, an interrupt controller"
-unfoldable pub vicOf : List ℕ → Number
-vicOf word =
+unfoldable pub vic_of : List ℕ → Number
+vic_of word =
     if is word (characters "0") then Is 0 else
     if is word (characters "1") then Is 1 else
     Wrong
@@ -36,20 +36,20 @@ alone name =
     Other
 
 -- `vwrite VIC OFFSET VALUE`: VIC, and the words behind it
-unfoldable pub writeOf : List ℕ → List ℕ → VicLine
-writeOf vic words = given Write (vicOf vic) (hexadecimal (first words)) (hexadecimal (rest words))
+unfoldable pub write_of : List ℕ → List ℕ → VicLine
+write_of vic words = given Write (vic_of vic) (hexadecimal (first words)) (hexadecimal (rest words))
 
 -- `vread VIC OFFSET`, `inputs VIC VALUE`, `vwrite`: a name, VIC, and the words behind them
 unfoldable pub with_words : List ℕ → List ℕ → List ℕ → VicLine
 with_words name vic words =
-    if is name (characters "vread") then given Read (vicOf vic) (hexadecimal words) none else
-    if is name (characters "inputs") then given Inputs (vicOf vic) (hexadecimal words) none else
-    if is name (characters "vwrite") then writeOf vic words else
+    if is name (characters "vread") then given Read (vic_of vic) (hexadecimal words) none else
+    if is name (characters "inputs") then given Inputs (vic_of vic) (hexadecimal words) none else
+    if is name (characters "vwrite") then write_of vic words else
     Other
 
 -- the call of a line. None has more than 26 characters, so that the limit of 4,096 needs no test
-unfoldable pub vicCallOf : List ℕ → VicLine
-vicCallOf line =
+unfoldable pub vic_call_of : List ℕ → VicLine
+vic_call_of line =
     if not (spaced line) then alone line else
     if not (spaced (rest line)) then Other else
     with_words (first line) (first (rest line)) (rest (rest line))

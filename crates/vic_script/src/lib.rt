@@ -1,6 +1,6 @@
 // A line of the bench console as a call of the interrupt controllers (docs/CONSOLE.md).
 ghost use Rattle.std.specs.Prelude.{◌≡◌};
-ghost use Rattle.vic_script.specs.VicCalls.{given, vicOf, alone, writeOf, with_words, vicCallOf};
+ghost use Rattle.vic_script.specs.VicCalls.{given, vic_of, alone, write_of, with_words, vic_call_of};
 
 use forms::numbers::{Number, hexadecimal};
 use words::{first, is, rest, spaced};
@@ -54,7 +54,7 @@ fn given(command: VicCommand, vic: Number, a: Number, b: Number) -> VicLine
 
 // A controller by its digit.
 fn vic_of(word: &[u8]) -> Number
-    ensures { result ≡ vicOf word.now }
+    ensures { result ≡ vic_of word.now }
 {
     if is(word, b"0") {
         return Number::Is(0);
@@ -81,7 +81,7 @@ fn alone(name: &[u8]) -> VicLine
 
 // A controller, an offset and a value.
 fn write_of(vic: &[u8], words: &[u8]) -> VicLine
-    ensures { result ≡ writeOf vic.now words.now }
+    ensures { result ≡ write_of vic.now words.now }
 {
     let offset = hexadecimal(first(words));
     let value = hexadecimal(rest(words));
@@ -107,7 +107,7 @@ fn with_words(name: &[u8], vic: &[u8], words: &[u8]) -> VicLine
 
 // The call of the interrupt controllers that a line names.
 pub fn vic_call_of(line: &[u8]) -> VicLine
-    ensures { result ≡ vicCallOf line.now }
+    ensures { result ≡ vic_call_of line.now }
 {
     if !spaced(line) {
         return alone(line);

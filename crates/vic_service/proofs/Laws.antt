@@ -7,5 +7,5 @@ use native.Mathlib.Omega.{arith}
 use lib.ListN.{length, set}
 use lib.Seq.{set_out}
 
-pub no-such-rank : (s : List Bool) (i : ℕ) (b : Bool) → length s ≡ 64 → 64 ≤ i → s ≡ set s i b
-no-such-rank s i b e h = let g : length s ≤ i = omega arith in sym (set_out s i b g)
+pub no_such_rank : (s : List Bool) (i : ℕ) (b : Bool) → length s ≡ 64 → 64 ≤ i → s ≡ set s i b
+no_such_rank s i b e h = let g : length s ≤ i = omega arith in sym (set_out s i b g)

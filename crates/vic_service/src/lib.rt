@@ -1,6 +1,6 @@
 // The requests in service, by rank: the last taken, one taken, one ended.
 ghost use Rattle.std.specs.Prelude.{◌≡◌};
-ghost use Rattle.vic_service.specs.Service.{taken, ended, lastTaken};
+ghost use Rattle.vic_service.specs.Service.{taken, ended, last_taken};
 
 // How many ranks each controller has, VIC0 the lower ones, and how many there are.
 pub const RANKS_EACH: usize = 32;
@@ -12,7 +12,7 @@ pub type Service = [bool; 64];
 
 // The last taken, or the number of ranks where none is in service.
 pub fn last_taken(service: &[bool]) -> usize
-    ensures { result ≡ lastTaken service.now }
+    ensures { result ≡ last_taken service.now }
 {
     let mut rank: usize = 0;
     while rank < service.len() {

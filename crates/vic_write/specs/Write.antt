@@ -22,26 +22,26 @@ use Rattle.vic_controller.specs.Controller.{made}
 
 -- ---- one part changed, the others kept
 
-abbrev pub withSoftware : Controller → ℕ → Controller
-withSoftware c v = made v c.enable c.selection c.protection c.default c.addresses c.controls
+abbrev pub with_software : Controller → ℕ → Controller
+with_software c v = made v c.enable c.selection c.protection c.default c.addresses c.controls
 
-abbrev pub withEnable : Controller → ℕ → Controller
-withEnable c v = made c.software v c.selection c.protection c.default c.addresses c.controls
+abbrev pub with_enable : Controller → ℕ → Controller
+with_enable c v = made c.software v c.selection c.protection c.default c.addresses c.controls
 
-abbrev pub withSelection : Controller → ℕ → Controller
-withSelection c v = made c.software c.enable v c.protection c.default c.addresses c.controls
+abbrev pub with_selection : Controller → ℕ → Controller
+with_selection c v = made c.software c.enable v c.protection c.default c.addresses c.controls
 
-abbrev pub withProtection : Controller → Bool → Controller
-withProtection c b = made c.software c.enable c.selection b c.default c.addresses c.controls
+abbrev pub with_protection : Controller → Bool → Controller
+with_protection c b = made c.software c.enable c.selection b c.default c.addresses c.controls
 
-abbrev pub withDefault : Controller → ℕ → Controller
-withDefault c v = made c.software c.enable c.selection c.protection v c.addresses c.controls
+abbrev pub with_default : Controller → ℕ → Controller
+with_default c v = made c.software c.enable c.selection c.protection v c.addresses c.controls
 
-abbrev pub withAddresses : Controller → List ℕ → Controller
-withAddresses c l = made c.software c.enable c.selection c.protection c.default l c.controls
+abbrev pub with_addresses : Controller → List ℕ → Controller
+with_addresses c l = made c.software c.enable c.selection c.protection c.default l c.controls
 
-abbrev pub withControls : Controller → List ℕ → Controller
-withControls c l = made c.software c.enable c.selection c.protection c.default c.addresses l
+abbrev pub with_controls : Controller → List ℕ → Controller
+with_controls c l = made c.software c.enable c.selection c.protection c.default c.addresses l
 
 -- ---- what a write keeps of its value
 
@@ -50,17 +50,17 @@ abbrev pub low_half : ℕ → ℕ
 low_half v = v % 2 ^ 16
 
 -- 4.10.5 and 4.10.7, rs: "Writing 0 has no effect."; 4.10.7: "Writing 1 sets the corresponding register bit."
-abbrev pub bitsSet : ℕ → ℕ → ℕ
-bitsSet old v = bit_or old (low_half v)
+abbrev pub bits_set : ℕ → ℕ → ℕ
+bits_set old v = bit_or old (low_half v)
 
 -- 4.10.6 and 4.10.8: "Writing 1 clears the corresponding bit .. Writing 0 has no effect."
-abbrev pub bitsCleared : ℕ → ℕ → ℕ
-bitsCleared old v = bit_and old (2 ^ 16 - 1 - low_half v)
+abbrev pub bits_cleared : ℕ → ℕ → ℕ
+bits_cleared old v = bit_and old (2 ^ 16 - 1 - low_half v)
 
 -- 4.10.13: bit 5 enables, bits 3 to 0 name the input; 15 to 6 are "Reserved, forced by hardware to 0", 4 is "Reserved, always read
 -- as 0"
-abbrev pub controlKept : ℕ → ℕ
-controlKept v = bit_and v 0x2f
+abbrev pub control_kept : ℕ → ℕ
+control_kept v = bit_and v 0x2f
 
 -- ---- a register written
 
@@ -69,13 +69,13 @@ abbrev pub written : Controller → Register → ℕ → Controller
 written c IrqStatus v = c
 written c FiqStatus v = c
 written c RawStatus v = c
-written c Selection v = withSelection c (low_half v)
-written c Enable v = withEnable c (bitsSet c.enable v)
-written c EnableClear v = withEnable c (bitsCleared c.enable v)
-written c Software v = withSoftware c (bitsSet c.software v)
-written c SoftwareClear v = withSoftware c (bitsCleared c.software v)
-written c Protection v = withProtection c (eqb (v % 2) 1)
-written c DefaultVector v = withDefault c v
-written c (Address slot) v = withAddresses c (set c.addresses slot v)
-written c (Control slot) v = withControls c (set c.controls slot (controlKept v))
+written c Selection v = with_selection c (low_half v)
+written c Enable v = with_enable c (bits_set c.enable v)
+written c EnableClear v = with_enable c (bits_cleared c.enable v)
+written c Software v = with_software c (bits_set c.software v)
+written c SoftwareClear v = with_software c (bits_cleared c.software v)
+written c Protection v = with_protection c (eqb (v % 2) 1)
+written c DefaultVector v = with_default c v
+written c (Address slot) v = with_addresses c (set c.addresses slot v)
+written c (Control slot) v = with_controls c (set c.controls slot (control_kept v))
 written c Unmodelled v = c

@@ -1,6 +1,6 @@
 // A register of an interrupt controller written.
 ghost use Rattle.std.specs.Prelude.{◌≡◌, set};
-ghost use Rattle.vic_write.specs.Write.{withAddresses, withControls, low_half, bitsSet, bitsCleared, controlKept, written};
+ghost use Rattle.vic_write.specs.Write.{with_addresses, with_controls, low_half, bits_set, bits_cleared, control_kept, written};
 
 use vic_controller::Controller;
 use vic_registers::Register;
@@ -14,28 +14,28 @@ fn low_half(v: u32) -> u16
 
 // Bits set where 1 is written.
 fn bits_set(old: u16, v: u32) -> u16
-    ensures { result ≡ bitsSet old v }
+    ensures { result ≡ bits_set old v }
 {
     old | low_half(v)
 }
 
 // Bits cleared where 1 is written.
 fn bits_cleared(old: u16, v: u32) -> u16
-    ensures { result ≡ bitsCleared old v }
+    ensures { result ≡ bits_cleared old v }
 {
     old & !low_half(v)
 }
 
 // What is kept of a vector control.
 fn control_kept(v: u32) -> u8
-    ensures { result ≡ controlKept v }
+    ensures { result ≡ control_kept v }
 {
     (v & Controller::VCIR_WRITABLE) as u8
 }
 
 // A slot's vector address written; past the last slot there is none.
 fn address_written(c: Controller, slot: usize, v: u32) -> Controller
-    ensures { result ≡ withAddresses c (set c.addresses slot v) }
+    ensures { result ≡ with_addresses c (set c.addresses slot v) }
 {
     let mut next = c;
     if 16 <= slot {
@@ -47,7 +47,7 @@ fn address_written(c: Controller, slot: usize, v: u32) -> Controller
 
 // A slot's vector control written.
 fn control_written(c: Controller, slot: usize, kept: u8) -> Controller
-    ensures { result ≡ withControls c (set c.controls slot kept) }
+    ensures { result ≡ with_controls c (set c.controls slot kept) }
 {
     let mut next = c;
     if 16 <= slot {

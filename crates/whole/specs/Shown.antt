@@ -2,9 +2,9 @@
 -- of its descriptor gives it all the same. Assumes nothing.
 use Rattle.std.specs.Prelude.{ℕ, ◌-◌, ◌≡◌, true, List, length, take}
 use Rattle.address.specs.Address.{aligned}
-use Rattle.window.specs.Window.{lent, inWindow}
+use Rattle.window.specs.Window.{lent, in_window}
 use Rattle.descriptor.specs.Descriptor.{start}
-use Rattle.frame.specs.Length.{lengthAllowed}
+use Rattle.frame.specs.Length.{length_allowed}
 use Rattle.reading.specs.Reading.{reading}
 use Rattle.calls.specs.Calls.{Bench}
 use Rattle.whole.specs.Whole.{LiesWhole}
@@ -13,9 +13,9 @@ use Rattle.whole.specs.Whole.{LiesWhole}
 pub record MayShow (b : Bench) (d : ℕ) (frame : List ℕ) : Type 0 where
   pub memory : lent b.device.window b.memory ≡ true
   pub place : aligned d ≡ true
-  pub inside : inWindow b.device.base b.device.window d 16 ≡ true
+  pub inside : in_window b.device.base b.device.window d 16 ≡ true
   pub flat : aligned (start b.device.base b.memory d) ≡ true
-  pub long : lengthAllowed (length frame) ≡ true
+  pub long : length_allowed (length frame) ≡ true
 
 -- "the part of the lent window that holds the frame without its last four bytes"
 abbrev pub ShownWhole : Type 0

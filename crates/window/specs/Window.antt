@@ -4,8 +4,8 @@ use Rattle.address.specs.Address.{aligned}
 
 -- "The window is lent memory of 64 to 65,536 bytes, a multiple of 4, seen by the device from a base address that is a
 -- multiple of 4. Base plus length is at most 2^32."
-unfoldable pub windowAllowed : ℕ → ℕ → Bool
-windowAllowed base window =
+unfoldable pub window_allowed : ℕ → ℕ → Bool
+window_allowed base window =
     leb 64 window && leb window 65536 && eqb (window % 4) 0 && eqb (base % 4) 0 && leb (base + window) (2 ^ 32)
 
 -- row 11 speaks of "lent memory not of the window's length"
@@ -17,9 +17,9 @@ abbrev pub offset : ℕ → ℕ → ℕ
 offset base address = address - base
 
 -- the n bytes from an address on lie in the window
-unfoldable pub inWindow : ℕ → ℕ → ℕ → ℕ → Bool
-inWindow base window address n = leb base address && leb (address + n) (base + window)
+unfoldable pub in_window : ℕ → ℕ → ℕ → ℕ → Bool
+in_window base window address n = leb base address && leb (address + n) (base + window)
 
 -- row 13 speaks of a "descriptor not at a multiple of 4 or not all in the window"; a descriptor is 16 bytes
-unfoldable pub holdsDescriptor : ℕ → ℕ → ℕ → Bool
-holdsDescriptor base window address = aligned address && inWindow base window address 16
+unfoldable pub holds_descriptor : ℕ → ℕ → ℕ → Bool
+holds_descriptor base window address = aligned address && in_window base window address 16

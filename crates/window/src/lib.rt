@@ -1,11 +1,11 @@
 // The window on plain numbers and lent memory: what every call tests before it acts. An address below the base counts as
 // the base.
 ghost use Rattle.std.specs.Prelude.{◌≡◌};
-ghost use Rattle.window.specs.Window.{windowAllowed, lent, offset, inWindow, holdsDescriptor};
+ghost use Rattle.window.specs.Window.{window_allowed, lent, offset, in_window, holds_descriptor};
 
 // A window that a bench may have.
 pub fn window_allowed(base: u32, window: u32) -> bool
-    ensures { result ≡ windowAllowed base window }
+    ensures { result ≡ window_allowed base window }
 {
     if window < 64 {
         return false;
@@ -41,7 +41,7 @@ pub fn offset(base: u32, address: u32) -> usize
 
 // n bytes from an address on lie in the window.
 pub fn in_window(base: u32, window: u32, address: u32, n: u32) -> bool
-    ensures { result ≡ inWindow base window address n }
+    ensures { result ≡ in_window base window address n }
 {
     if address < base {
         return false;
@@ -51,7 +51,7 @@ pub fn in_window(base: u32, window: u32, address: u32, n: u32) -> bool
 
 // A descriptor at this address stands at a multiple of 4 and lies all in the window.
 pub fn holds_descriptor(base: u32, window: u32, address: u32) -> bool
-    ensures { result ≡ holdsDescriptor base window address }
+    ensures { result ≡ holds_descriptor base window address }
 {
     if !address::aligned(address) {
         return false;

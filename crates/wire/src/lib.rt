@@ -1,11 +1,11 @@
 // The bytes of a frame out: padding and check sequence, put at the front of an output.
 ghost use Rattle.std.specs.Prelude.{◌≡◌, ◌+◌, ◌-◌, replicate};
 ghost use Rattle.memory.specs.Memory.{store};
-ghost use Rattle.wire.specs.Wire.{sendLengthWrong, wireFits, wirePut, wireCount};
+ghost use Rattle.wire.specs.Wire.{send_length_wrong, wire_fits, wire_put, wire_count};
 
 // Under 14 or over 1,514.
 pub fn send_length_wrong(n: u32) -> bool
-    ensures { result ≡ sendLengthWrong n }
+    ensures { result ≡ send_length_wrong n }
 {
     if n < 14 {
         return true;
@@ -15,7 +15,7 @@ pub fn send_length_wrong(n: u32) -> bool
 
 // The payload may be put into the output.
 fn wire_fits(out: &[u8], payload: &[u8]) -> bool
-    ensures { result ≡ wireFits out.now payload.now }
+    ensures { result ≡ wire_fits out.now payload.now }
 {
     if 1514 < payload.len() {
         return false;
@@ -44,7 +44,7 @@ fn padded_length(n: usize) -> usize
 // bytes that is; where the payload is too long or the output too short nothing is written, and the
 // answer is 0.
 pub fn put_wire(out: &mut [u8], payload: &[u8]) -> usize
-    ensures { (result ≡ wireCount out.old payload.now) × (out.new ≡ wirePut out.old payload.now) }
+    ensures { (result ≡ wire_count out.old payload.now) × (out.new ≡ wire_put out.old payload.now) }
 {
     if !wire_fits(out, payload) {
         return 0;

@@ -15,24 +15,24 @@ use Rattle.fcs.specs.Bytes.{same}
 use Rattle.words.specs.Words.{is, first, rest}
 
 -- a space that was looked for in the whole
-pub space-is : (s : List ℕ) (r : ℕ) → r ≡ 0 + index_of 32 (slice 0 (length s) s) → r ≡ index_of 32 s
+pub space_is : (s : List ℕ) (r : ℕ) → r ≡ 0 + index_of 32 (slice 0 (length s) s) → r ≡ index_of 32 s
 unfolding slice
-space-is s r e = rw (zero-add, take-length) at e
+space_is s r e = rw (zero-add, take-length) at e
 
-pub first-is : (s : List ℕ) (n : ℕ) → n ≡ index_of 32 s → take n s ≡ first s
+pub first_is : (s : List ℕ) (n : ℕ) → n ≡ index_of 32 s → take n s ≡ first s
 unfolding first
-first-is s n e = rw e
+first_is s n e = rw e
 
 -- nothing follows where there is no space
-pub rest-none : (s : List ℕ) (n : ℕ) → n ≡ index_of 32 s → n ≡ length s → take (length s - n) (drop n s) ≡ rest s
+pub rest_none : (s : List ℕ) (n : ℕ) → n ≡ index_of 32 s → n ≡ length s → take (length s - n) (drop n s) ≡ rest s
 unfolding rest
-rest-none s n e h =
+rest_none s n e h =
     rw (drop_of_length-le s {i = n} (omega arith), take-nil (length s - n))
     (sym (drop_of_length-le s {i = index_of 32 s + 1} (omega arith)))
 
-pub rest-is : (s : List ℕ) (n : ℕ) → n ≡ index_of 32 s → take (length s - (n + 1)) (drop (n + 1) s) ≡ rest s
+pub rest_is : (s : List ℕ) (n : ℕ) → n ≡ index_of 32 s → take (length s - (n + 1)) (drop (n + 1) s) ≡ rest s
 unfolding rest
-rest-is s n e = rw (← e) (take_all (length s - (n + 1)) (drop (n + 1) s) (omega (arith, length-drop (n + 1) s)))
+rest_is s n e = rw (← e) (take_all (length s - (n + 1)) (drop (n + 1) s) (omega (arith, length-drop (n + 1) s)))
 
 -- ---- the same word
 
@@ -50,15 +50,15 @@ same_true (x ∷ a) (y ∷ b) e =
     let t : a ≡ b = same_true a b p.1 in
     cc
 
-not-true-is : (t : Bool) → (t ≡ true → false ≡ true) → false ≡ t
-not-true-is true f = f refl
-not-true-is false f = refl
+not_true_is : (t : Bool) → (t ≡ true → false ≡ true) → false ≡ t
+not_true_is true f = f refl
+not_true_is false f = refl
 
 -- what says whether two lists are equal says whether they are the same
-pub same-is : (a b : List ℕ) (r : Bool) → (r ≡ true → a ≡ b) → (a ≡ b → r ≡ true) → r ≡ is a b
+pub same_is : (a b : List ℕ) (r : Bool) → (r ≡ true → a ≡ b) → (a ≡ b → r ≡ true) → r ≡ is a b
 unfolding is
-same-is a b true f g = rw (f refl) (sym (same_refl b))
-same-is a b false f g = not-true-is (same a b) (λ e. g (same_true a b e))
+same_is a b true f g = rw (f refl) (sym (same_refl b))
+same_is a b false f g = not_true_is (same a b) (λ e. g (same_true a b e))
 
 -- ---- a name that was tested by a call, and is the one asked for or not
 

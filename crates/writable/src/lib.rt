@@ -1,12 +1,12 @@
 // The bits of each register that a write can change.
 ghost use Rattle.std.specs.Prelude.{◌≡◌};
-ghost use Rattle.writable.specs.Writable.{writableBits, kept};
+ghost use Rattle.writable.specs.Writable.{writable_bits, kept};
 
 use registers::{Register, Registers};
 
 // A register's writable bits; of the status register, those that writing 1 clears.
 fn bits(register: Register) -> u32
-    ensures { result ≡ writableBits register }
+    ensures { result ≡ writable_bits register }
 {
     match register {
         Register::Ier => Registers::IER_WRITABLE,

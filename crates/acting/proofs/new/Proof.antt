@@ -1,6 +1,6 @@
 -- `acting::new` meets its contract. Assumes nothing.
 use borrow.Author.Rules.{rules}
-use Rattle.acting.proofs.Laws.{new-made}
+use Rattle.acting.proofs.Laws.{new_made}
 use Rattle.acting.proofs.new.Statement.{statement}
 use Rattle.acting.proofs.new.Tie as tie
 
@@ -17,4 +17,4 @@ new_spec =
     let e = c.before.before.before.before.before.before.before.before.before.args in
     let a = c.before.before.answered in
     let f = c.before.before.before.before.before.before.before.new in
-    new-made e.console _ _ _ _ _ _ _ f.ensures a.ensures.0 a.ensures.1))
+    new_made e.console _ _ _ _ _ _ _ f.ensures a.ensures.0 a.ensures.1))

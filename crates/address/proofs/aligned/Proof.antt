@@ -1,4 +1,4 @@
-use Rattle.address.proofs.Laws.{aligned-is}
+use Rattle.address.proofs.Laws.{aligned_is}
 use Rattle.address.proofs.aligned.Statement.{statement}
 use Rattle.address.proofs.aligned.Tie as tie
 
@@ -6,4 +6,4 @@ pub aligned-spec : {M : Type 1} → statement M
 aligned-spec =
     tie.close
     (tie.spec
-    (λ c. search aligned-is))
+    (λ c. search aligned_is))

@@ -1,5 +1,5 @@
 use borrow.Author.Rules.{rules}
-use Rattle.address.proofs.Laws.{before-apart, else-behind}
+use Rattle.address.proofs.Laws.{before_apart, else_behind}
 use Rattle.address.proofs.apart.Statement.{statement}
 use Rattle.address.proofs.apart.Tie as tie
 
@@ -8,6 +8,6 @@ apart-spec =
     tie.close
     (tie.spec
     (λ c. search rules)
-    (λ c. search before-apart)
+    (λ c. search before_apart)
     (λ c. search rules)
-    (λ c. search else-behind))
+    (λ c. search else_behind))

@@ -1,4 +1,4 @@
-use Rattle.address.proofs.Laws.{polls-is}
+use Rattle.address.proofs.Laws.{polls_is}
 use Rattle.address.proofs.polls.Statement.{statement}
 use Rattle.address.proofs.polls.Tie as tie
 
@@ -6,4 +6,4 @@ pub polls-spec : {M : Type 1} → statement M
 polls-spec =
     tie.close
     (tie.spec
-    (λ c. search polls-is))
+    (λ c. search polls_is))

@@ -1,5 +1,5 @@
 -- `address_rule::group` meets its contract. Assumes nothing.
-use Rattle.address_rule.proofs.Exits.{hash-takes, hash-refuses, mode-takes, mode-refuses}
+use Rattle.address_rule.proofs.Exits.{hash_takes, hash_refuses, mode_takes, mode_refuses}
 use Rattle.address_rule.proofs.group.Statement.{statement}
 use Rattle.address_rule.proofs.group.Tie as tie
 
@@ -9,7 +9,7 @@ group-spec =
     (tie.spec
     (λ c κs. tt)
     (λ c κs. tt)
-    (λ c. search hash-takes)
-    (λ c. search hash-refuses)
-    (λ c. search mode-takes)
-    (λ c. search mode-refuses))
+    (λ c. search hash_takes)
+    (λ c. search hash_refuses)
+    (λ c. search mode_takes)
+    (λ c. search mode_refuses))

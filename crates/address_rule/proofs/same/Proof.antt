@@ -5,7 +5,7 @@ use Prim.Native.Nat.{◌≤◌, ◌-◌}
 use native.Mathlib.Omega.{arith}
 use lib.ListN.{length, drop}
 use Rattle.fcs.specs.Bytes.{same}
-use Rattle.address_rule.proofs.Comparison.{same-lengths, same-other, same_turn, same_end}
+use Rattle.address_rule.proofs.Comparison.{same_lengths, same_other, same_turn, same_end}
 use Rattle.address_rule.proofs.same.Statement.{statement}
 use Rattle.address_rule.proofs.same.Tie as tie
 
@@ -16,7 +16,7 @@ abbrev decreases-loop : tie.decreases-loop
 decreases-loop a b i₀ i = length a - i
 
 returns : tie.Need-returns invariant-loop decreases-loop
-returns c = search same-lengths
+returns c = search same_lengths
 
 loop-holds : tie.Need-loop-init invariant-loop decreases-loop
 loop-holds c = (omega arith, refl)
@@ -31,7 +31,7 @@ returns-2 : tie.Need-returns-2 invariant-loop decreases-loop
 returns-2 c =
     let at = c.before.before.before.before in
     let args = at.before.before.args in
-    sym (at.loop.invariant.1 ∙ same-other args.a.now args.b.now at.loop.i (omega arith) (omega arith) c.if2.true)
+    sym (at.loop.invariant.1 ∙ same_other args.a.now args.b.now at.loop.i (omega arith) (omega arith) c.if2.true)
 
 add-i : tie.Need-overflow-add-i invariant-loop decreases-loop
 add-i c = omega arith

@@ -1,5 +1,5 @@
 use borrow.Author.Rules.{rules}
-use Rattle.appending.proofs.Laws.{none-behind, no-head, no_body, both-put}
+use Rattle.appending.proofs.Laws.{none_behind, no_head, no_body, both_put}
 use Rattle.appending.proofs.put.Statement.{statement}
 use Rattle.appending.proofs.put.Tie as tie
 
@@ -7,9 +7,9 @@ pub put_spec : {M : Type 1} → statement M
 put_spec =
     tie.close
     (tie.spec
-    (λ c. search none-behind)
+    (λ c. search none_behind)
     (λ c. search rules)
-    (λ c. search no-head)
+    (λ c. search no_head)
     (λ c. search rules)
     (λ c. search no_body)
     (λ c. search rules)
@@ -17,4 +17,4 @@ put_spec =
     (λ c κs. search rules)
     (λ c. search rules)
     (λ c. search rules)
-    (λ c. search both-put))
+    (λ c. search both_put))

@@ -1,6 +1,6 @@
 -- `asking::said` meets its contract. Assumes nothing.
 use borrow.Author.Rules.{rules}
-use Rattle.asking.proofs.Laws.{read-said, line-said, show-said, ring-said, peek-said, check-said, state-said, counters-said, error-said}
+use Rattle.asking.proofs.Laws.{read_said, line_said, show_said, ring_said, peek_said, check_said, state_said, counters_said, error_said}
 use Rattle.asking.proofs.said.Statement.{statement}
 use Rattle.asking.proofs.said.Tie as tie
 
@@ -30,20 +30,20 @@ said-spec =
     (λ c. search rules)
     (λ c κs. search rules)
     (λ c. search rules)
-    (λ c. search read-said)
+    (λ c. search read_said)
     (λ c. search rules)
-    (λ c. search line-said)
+    (λ c. search line_said)
     (λ c. search rules)
-    (λ c. search show-said)
+    (λ c. search show_said)
     (λ c. search rules)
-    (λ c. search ring-said)
+    (λ c. search ring_said)
     (λ c. search rules)
-    (λ c. search peek-said)
+    (λ c. search peek_said)
     (λ c. search rules)
-    (λ c. search check-said)
+    (λ c. search check_said)
     (λ c. search rules)
-    (λ c. search state-said)
+    (λ c. search state_said)
     (λ c. search rules)
-    (λ c. search counters-said)
+    (λ c. search counters_said)
     (λ c. search rules)
-    (λ c. search error-said))
+    (λ c. search error_said))

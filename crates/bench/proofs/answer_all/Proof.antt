@@ -1,7 +1,7 @@
 -- `bench::answer_all` is safe and ends: each turn takes a part of the input. Assumes nothing.
 use borrow.Author.Rules.{rules}
 use Prim.Native.Nat.{◌≤◌}
-use Rattle.lines.proofs.Turns.{turn-less}
+use Rattle.lines.proofs.Turns.{turn_less}
 use Rattle.bench.proofs.answer_all.Statement.{statement}
 use Rattle.bench.proofs.answer_all.Tie as tie
 
@@ -27,7 +27,7 @@ answered-requires : tie.Need-answered-requires invariant-loop decreases-loop
 answered-requires c κs = search rules
 
 loop-less : tie.Need-loop-smaller invariant-loop decreases-loop
-loop-less c = search turn-less
+loop-less c = search turn_less
 
 loop-again : tie.Need-loop-preserved invariant-loop decreases-loop
 loop-again c = search rules

@@ -1,7 +1,7 @@
 -- `block::fault` meets its contract: a law for each way out, in the order of the tests. Assumes nothing.
 use native.Mathlib.Omega.{arith}
 use borrow.Author.Rules.{rules}
-use Rattle.block.proofs.Ways.{ways, used-in}
+use Rattle.block.proofs.Ways.{ways, used_in}
 use Rattle.block.proofs.fault.Statement.{statement}
 use Rattle.block.proofs.fault.Tie as tie
 
@@ -18,10 +18,10 @@ returns-4 : tie.Need-returns-4
 returns-4 c = search ways
 
 add-part : tie.Need-overflow-add-part
-add-part c = omega (arith, (used-in _ _ _ c.before.used-fault.ensures c.if4.false).1)
+add-part c = omega (arith, (used_in _ _ _ c.before.used-fault.ensures c.if4.false).1)
 
 sub_part : tie.Need-overflow-sub-part
-sub_part c = (used-in _ _ _ c.before.used-fault.ensures c.if4.false).1
+sub_part c = (used_in _ _ _ c.before.used-fault.ensures c.if4.false).1
 
 returns-5 : tie.Need-returns-5
 returns-5 c = search ways

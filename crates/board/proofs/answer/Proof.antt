@@ -1,5 +1,5 @@
 use borrow.Author.Rules.{rules}
-use Rattle.board.proofs.Laws.{answer-calls, answer-other}
+use Rattle.board.proofs.Laws.{answer_calls, answer_other}
 use Rattle.board.proofs.answer.Statement.{statement}
 use Rattle.board.proofs.answer.Tie as tie
 
@@ -14,7 +14,7 @@ answer-spec =
     (λ c κs. search rules)
     (λ c. search rules)
     (λ c. search rules)
-    (λ c. search answer-calls)
+    (λ c. search answer_calls)
     (λ c. search rules)
     (λ c. search rules)
-    (λ c. search answer-other))
+    (λ c. search answer_other))

@@ -1,5 +1,5 @@
 use borrow.Author.Rules.{rules}
-use Rattle.board.proofs.Laws.{elsewhere-is}
+use Rattle.board.proofs.Laws.{elsewhere_is}
 use Rattle.board.proofs.elsewhere.Statement.{statement}
 use Rattle.board.proofs.elsewhere.Tie as tie
 
@@ -11,4 +11,4 @@ elsewhere-spec =
     (λ c κs. search rules)
     (λ c. search rules)
     (λ c. search rules)
-    (λ c. search elsewhere-is))
+    (λ c. search elsewhere_is))

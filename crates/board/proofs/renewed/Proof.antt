@@ -1,5 +1,5 @@
 use borrow.Author.Rules.{rules}
-use Rattle.board.proofs.Laws.{not_new, is-new, no_call}
+use Rattle.board.proofs.Laws.{not_new, is_new, no_call}
 use Rattle.board.proofs.renewed.Statement.{statement}
 use Rattle.board.proofs.renewed.Tie as tie
 
@@ -14,5 +14,5 @@ renewed-spec =
     (λ c κs. search rules)
     (λ c κs. search rules)
     (λ c κs. search rules)
-    (λ c. search is-new)
+    (λ c. search is_new)
     (λ c. search no_call))

@@ -1,5 +1,5 @@
 use borrow.Author.Rules.{rules}
-use Rattle.board.proofs.Laws.{reset-both}
+use Rattle.board.proofs.Laws.{reset_both}
 use Rattle.board.proofs.reset.Statement.{statement}
 use Rattle.board.proofs.reset.Tie as tie
 
@@ -9,4 +9,4 @@ reset-spec =
     (tie.spec
     (λ c κs. search rules)
     (λ c κs. search rules)
-    (λ c. search reset-both))
+    (λ c. search reset_both))

@@ -5,9 +5,9 @@ use native.Mathlib.Omega.{arith}
 use borrow.Author.Rules.{rules}
 use lib.ListN.{length, drop}
 use Rattle.pair.specs.Turn.{bursting}
-use Rattle.burst.specs.Burst.{pairsOf}
-use Rattle.burst.specs.Turns.{turnsOf}
-use Rattle.burst.proofs.Turns.{lists-turn, lists-end}
+use Rattle.burst.specs.Burst.{pairs_of}
+use Rattle.burst.specs.Turns.{turns_of}
+use Rattle.burst.proofs.Turns.{lists_turn, lists_end}
 use Rattle.burst.proofs.each.Statement.{statement}
 use Rattle.burst.proofs.each.Tie as tie
 
@@ -16,8 +16,8 @@ invariant-loop memory₀ store starts lengths answers₀ last₀ i₀ memory ans
     ((i ≤ length starts) × (length starts < 2 ^ 64))
     × ((length memory ≡ length memory₀)
     × ((length answers ≡ length answers₀)
-    × (turnsOf (bursting last memory answers) store i (pairsOf (drop i starts) (drop i lengths))
-    ≡ turnsOf (bursting last₀ memory₀ answers₀) store 0 (pairsOf starts lengths))))
+    × (turns_of (bursting last memory answers) store i (pairs_of (drop i starts) (drop i lengths))
+    ≡ turns_of (bursting last₀ memory₀ answers₀) store 0 (pairs_of starts lengths))))
 
 abbrev decreases-loop : tie.decreases-loop
 decreases-loop memory₀ store starts lengths answers₀ last₀ i₀ memory answers last i = length starts - i
@@ -52,7 +52,7 @@ loop-again c =
     let o = c.before.before.before.before.turn in
     let a = c.before.before.before.before.before.before.before.before.before.before.before.before.before.before.before.before.args in
     let pre = c.before.before.before.before.before.before.before.before.before.before.before.before.before.before.before.before.requires in
-    let t = lists-turn _ _ _ a.starts.now a.lengths.now l.i (omega arith) pre o.ensures in
+    let t = lists_turn _ _ _ a.starts.now a.lengths.now l.i (omega arith) pre o.ensures in
     ((omega arith, l.invariant.0.1), (o.auto.1.0 ∙ l.invariant.1.0, (o.auto.1.1.1.1.1.0 ∙ l.invariant.1.1.0, t ∙ l.invariant.1.1.1)))
 
 same_length : tie.Need-same-length invariant-loop decreases-loop
@@ -65,7 +65,7 @@ returns : tie.Need-returns invariant-loop decreases-loop
 returns c =
     let l = c.before.loop in
     let a = c.before.before.before.before.before.before.before.args in
-    sym (lists-end _ _ a.starts.now a.lengths.now l.i (omega arith)) ∙ l.invariant.1.1.1
+    sym (lists_end _ _ a.starts.now a.lengths.now l.i (omega arith)) ∙ l.invariant.1.1.1
 
 pub each_spec : {M : Type 1} → statement M
 each_spec =

@@ -68,12 +68,12 @@ use Rattle.enet.proofs.Answered.TheLaws as A₀'
 use Rattle.pair.specs.declared.Pair.{Pair}
 use Rattle.pair.specs.Turn.{Bursting, bursting, turn as turn_of}
 use Rattle.burst.specs.Burst.{burst}
-use Rattle.burst.specs.Turns.{turnsOf}
+use Rattle.burst.specs.Turns.{turns_of}
 use Rattle.burst_pairs.specs.Walk.{begun as begunOf, turns as turnsOf'}
 use Rattle.pair.specs.contracts.Pair as P
 use Rattle.pair.proofs.Pair.TheLaws as P'
 use Rattle.burst_pairs.proofs.Again.{LentAgain, lends_again, comes_back}
-use Rattle.burst_pairs.proofs.Laws.{turns-le, walk_turn, walk_end, walk_is}
+use Rattle.burst_pairs.proofs.Laws.{turns_le, walk_turn, walk_end, walk_is}
 use Rattle.burst_pairs.specs.contracts.turns as turns
 use Rattle.burst_pairs.proofs.turns.Symbol as turns-def
 use Rattle.burst_pairs.proofs.turns.Symbol.{name as #burst-pairs·turns}
@@ -227,7 +227,7 @@ module _ {M : Type 1} {𝓤 : Ura M} (𝓛 : Logic 𝓤) (mem : Memory → SProp
   n = turnsOf' (length ps) (length a₀)
 
   abbrev all : Bursting
-  all = turnsOf (bursting (begunOf (length ps) (length a₀) d) m₀ a₀) st 0 (take n ps)
+  all = turns_of (bursting (begunOf (length ps) (length a₀) d) m₀ a₀) st 0 (take n ps)
 
   -- ---- the types of machine values
   E-typed : Is E.the_row d (vd ∷ []) → T (has_ty tE vd) × WT vd
@@ -500,7 +500,7 @@ module _ {M : Type 1} {𝓤 : Ura M} (𝓛 : Logic 𝓤) (mem : Memory → SProp
         by ! (k x u zs.1.0 zs.1.1.1.1.1.0 em ea e)))))))))))))
       where
         within : i < length ps
-        within = omega (arith, turns-le (length ps) (length a₀))
+        within = omega (arith, turns_le (length ps) (length a₀))
 
         room : length ps * 8 < 2 ^ 63
         room = gp.1
@@ -549,7 +549,7 @@ module _ {M : Type 1} {𝓤 : Ura M} (𝓛 : Logic 𝓤) (mem : Memory → SProp
     Here s = ⋆ 𝓛 (At s.0 s.1.0 s.1.1.0 s.1.1.1.0 s.1.1.1.1)
 
     abbrev Facts : ℕ → State → Type 0
-    Facts t s = (s.0 + t ≡ n) × ((length s.1.1.1.0 ≡ length m₀) × ((length s.1.1.1.1 ≡ length a₀) × (turnsOf (bursting
+    Facts t s = (s.0 + t ≡ n) × ((length s.1.1.1.0 ≡ length m₀) × ((length s.1.1.1.1 ≡ length a₀) × (turns_of (bursting
         s.1.0 s.1.1.1.0 s.1.1.1.1) st s.0 (drop s.0 (take n ps)) ≡ all)))
 
     abbrev Inv : ℕ → SProp 𝓤
@@ -568,10 +568,10 @@ module _ {M : Type 1} {𝓤 : Ura M} (𝓛 : Logic 𝓤) (mem : Memory → SProp
         let a = s.1.1.1.1 in
         let b = bursting s.1.0 m a in
         let z : s.0 ≡ n = omega (arith, f.0) in
-        let e : turnsOf b st n (drop n (take n ps)) ≡ all = subst (λ (k : ℕ). turnsOf b st k (drop k (take n ps)) ≡ all) z f.1.1.1 in
+        let e : turns_of b st n (drop n (take n ps)) ≡ all = subst (λ (k : ℕ). turns_of b st k (drop k (take n ps)) ≡ all) z f.1.1.1 in
         subst (λ (k : ℕ). ent 𝓤 (⋆ 𝓛 (At k s.1.0 s.1.1.0 m a)) (Wp 𝓤 H C Λ En mir.turn-1 (after_turn 𝓤 H (Below zero) Left)))
         (sym z)
-        (ends s.1.0 s.1.1.0 m a (Below zero) f.1.0 f.1.1.0 (sym (walk_end b st ps n (turns-le (length ps)
+        (ends s.1.0 s.1.1.0 m a (Below zero) f.1.0 f.1.1.0 (sym (walk_end b st ps n (turns_le (length ps)
         (length a₀))) ∙ e ∙ walk_is d m₀ st ps a₀))
     turn_at (suc t) s f =
         let i = s.0 in
@@ -588,7 +588,7 @@ module _ {M : Type 1} {𝓤 : Ura M} (𝓛 : Logic 𝓤) (mem : Memory → SProp
             (
               ea ∙ f.1.1.0,
               walk_turn (bursting s.1.0 m a)
-                  (bursting x m' a') st ps n i none small (turns-le (length ps) (length a₀)) e ∙ f.1.1.1,
+                  (bursting x m' a') st ps n i none small (turns_le (length ps) (length a₀)) e ∙ f.1.1.1,
             ),
           ),
         ))
@@ -607,7 +607,7 @@ module _ {M : Type 1} {𝓤 : Ura M} (𝓛 : Logic 𝓤) (mem : Memory → SProp
             refl,
             (
               refl,
-              ap (λ (x : Answered). turnsOf (bursting x m₀ a₀) st 0
+              ap (λ (x : Answered). turns_of (bursting x m₀ a₀) st 0
                   (take n ps)) e,
             ),
           ),

@@ -1,7 +1,7 @@
 -- `burst_speed::speed_burst` meets its contract. Assumes nothing.
 use borrow.Author.Rules.{rules}
 use native.Mathlib.Omega.{arith}
-use Rattle.burst_speed.proofs.Laws.{burst-gave}
+use Rattle.burst_speed.proofs.Laws.{burst_gave}
 use Rattle.burst_speed.proofs.speed_burst.Statement.{statement}
 use Rattle.burst_speed.proofs.speed_burst.Tie as tie
 
@@ -14,4 +14,4 @@ speed-burst-spec =
     (λ c κs. search rules)
     (λ c. search rules)
     (λ c. search rules)
-    (λ c. search burst-gave))
+    (λ c. search burst_gave))

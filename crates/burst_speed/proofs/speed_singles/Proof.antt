@@ -5,14 +5,14 @@ use Prim.Native.Nat.{◌+◌, ◌≤◌}
 use native.Mathlib.Omega.{arith}
 use borrow.Author.Rules.{rules}
 use lib.ListN.{length}
-use Rattle.burst_speed.specs.Bursts.{singleReceives}
-use Rattle.timing.proofs.Laws.{rounds-turn, rounds-end}
+use Rattle.burst_speed.specs.Bursts.{single_receives}
+use Rattle.timing.proofs.Laws.{rounds_turn, rounds_end}
 use Rattle.burst_speed.proofs.speed_singles.Statement.{statement}
 use Rattle.burst_speed.proofs.speed_singles.Tie as tie
 
 abbrev invariant-loop : tie.invariant-loop
 invariant-loop memory₀ frame rounds device₀ taken₀ left₀ memory device taken left =
-    (taken + left ≤ rounds) × ((length memory ≡ length memory₀) × (singleReceives left taken device memory frame ≡ singleReceives rounds 0 device₀ memory₀ frame))
+    (taken + left ≤ rounds) × ((length memory ≡ length memory₀) × (single_receives left taken device memory frame ≡ single_receives rounds 0 device₀ memory₀ frame))
 
 abbrev decreases-loop : tie.decreases-loop
 decreases-loop memory₀ frame rounds device₀ taken₀ left₀ memory device taken left = left
@@ -48,7 +48,7 @@ loop-again c =
       omega arith,
       (
         r.auto.1.0 ∙ l.invariant.1.0,
-        rounds-turn _ l.left l.taken c.passed.result _ _ _ _ (omega arith) r.ensures c.passed.ensures.0 ∙ l.invariant.1.1,
+        rounds_turn _ l.left l.taken c.passed.result _ _ _ _ (omega arith) r.ensures c.passed.ensures.0 ∙ l.invariant.1.1,
       ),
     )
 
@@ -58,7 +58,7 @@ same_length c = search rules
 returns : tie.Need-returns invariant-loop decreases-loop
 returns c =
     let l = c.before.loop in
-    sym (rounds-end _ l.left _ _ _ (omega arith)) ∙ rw c.before.before.bench.ensures at l.invariant.1.1
+    sym (rounds_end _ l.left _ _ _ (omega arith)) ∙ rw c.before.before.bench.ensures at l.invariant.1.1
 
 pub speed-singles-spec : {M : Type 1} → statement M
 speed-singles-spec =

@@ -1,7 +1,7 @@
 -- `bursting::burst` meets its contract. Assumes nothing.
 use borrow.Author.Rules.{rules}
-use Rattle.commands.proofs.Laws.{within-fits, within-long}
-use Rattle.bursting.proofs.Laws.{burst-made}
+use Rattle.commands.proofs.Laws.{within_fits, within_long}
+use Rattle.bursting.proofs.Laws.{burst_made}
 use Rattle.bursting.proofs.burst.Statement.{statement}
 use Rattle.bursting.proofs.burst.Tie as tie
 
@@ -23,9 +23,9 @@ burst-spec =
     (λ c. search rules)
     (λ c κs. search rules)
     (λ c. search rules)
-    (λ c. search (rules, within-long))
+    (λ c. search (rules, within_long))
     (λ c. search rules)
-    (λ c. search (rules, within-long))
+    (λ c. search (rules, within_long))
     (λ c κs. search rules)
     (λ c. search rules)
     (λ c. search rules)
@@ -37,5 +37,5 @@ burst-spec =
     let w = ss.before.before in
     let z = w.before.before.before.before.before in
     let e = z.before.before.before.before.before.before.args in
-    burst-made _ _ _ _ w.within.result z.before.before.rest.ensures z.before.rest2.ensures w.within.ensures _ ss.before.rest3.ensures
+    burst_made _ _ _ _ w.within.result z.before.before.rest.ensures z.before.rest2.ensures w.within.ensures _ ss.before.rest3.ensures
     _ _ _ _ e.room _ _ _ _ _ _ _ _ _ z.blank.ensures w.before.before.before.before.first.ensures w.before.before.decode.ensures p.ensures ss.numbers.ensures.0 ns.before.rest4.ensures ns.numbers2.ensures.0 d.call.ensures))

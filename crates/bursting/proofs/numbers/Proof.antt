@@ -1,6 +1,6 @@
 -- `bursting::numbers` meets its contract. Assumes nothing.
 use borrow.Author.Rules.{rules}
-use Rattle.bursting.proofs.Laws.{numbers-are}
+use Rattle.bursting.proofs.Laws.{numbers_are}
 use Rattle.bursting.proofs.numbers.Statement.{statement}
 use Rattle.bursting.proofs.numbers.Tie as tie
 
@@ -10,4 +10,4 @@ numbers-spec =
     (tie.spec
     (λ c. search rules)
     (λ c κs. search rules)
-    (λ c. (search numbers-are, search rules)))
+    (λ c. (search numbers_are, search rules)))

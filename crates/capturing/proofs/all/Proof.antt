@@ -4,7 +4,7 @@ use mathlib.Core.Path.{◌≡◌, refl, ◌∙◌}
 use native.Mathlib.Omega.{arith}
 use lib.ListN.{length}
 use Rattle.capturing.specs.Capturing.{capturing}
-use Rattle.capturing.proofs.Turns.{Going, going-begins, going-room, going_on, going-ends}
+use Rattle.capturing.proofs.Turns.{Going, going_begins, going_room, going_on, going_ends}
 use borrow.Author.Rules.{rules}
 use Rattle.capturing.proofs.all.Statement.{statement}
 use Rattle.capturing.proofs.all.Tie as tie
@@ -32,18 +32,18 @@ all-spec =
     invariant-loop
     decreases-loop
     (λ c κs. search rules)
-    (λ c. (search going-begins, (omega arith, (refl, (refl, refl)))))
+    (λ c. (search going_begins, (omega arith, (refl, (refl, refl)))))
     (λ c κs. search rules)
     (λ c.
     let loop-at = c.before.before.before.before.before.before.before.before.before.before.before in
-    let r = going-room _ _ _ _ _ _ loop-at.loop.invariant.0 in let few = loop-at.loop.invariant.1.0 in omega arith)
+    let r = going_room _ _ _ _ _ _ loop-at.loop.invariant.0 in let few = loop-at.loop.invariant.1.0 in omega arith)
     (λ c.
     let loop-at = c.before.before.before.before.before.before.before.before.before.before.before in
-    let r = going-room _ _ _ _ _ _ loop-at.loop.invariant.0 in let f = loop-at.loop.invariant.0.few in let few = loop-at.loop.invariant.1.0 in omega arith)
+    let r = going_room _ _ _ _ _ _ loop-at.loop.invariant.0 in let f = loop-at.loop.invariant.0.few in let few = loop-at.loop.invariant.1.0 in omega arith)
     (λ c κs. search rules)
-    (λ c. let r = going-room _ _ _ _ _ _ c.before.before.before.before.before.before.before.before.before.before.before.before.loop.invariant.0 in omega arith)
+    (λ c. let r = going_room _ _ _ _ _ _ c.before.before.before.before.before.before.before.before.before.before.before.before.loop.invariant.0 in omega arith)
     loop-again
     (λ c. search rules)
     (λ c. search rules)
     (λ c. search rules)
-    (λ c. going-ends _ _ _ _ _ _ c.before.loop.invariant.0 c.loop-test.false))
+    (λ c. going_ends _ _ _ _ _ _ c.before.loop.invariant.0 c.loop-test.false))

@@ -1,4 +1,4 @@
-use Rattle.capturing.proofs.Turns.{all-captured}
+use Rattle.capturing.proofs.Turns.{all_captured}
 use borrow.Author.Rules.{rules}
 use Rattle.capturing.proofs.capture.Statement.{statement}
 use Rattle.capturing.proofs.capture.Tie as tie
@@ -12,4 +12,4 @@ capture-spec =
     (λ c. search rules)
     (λ c. search rules)
     (λ c. search rules)
-    (λ c. all-captured _ _ _ _ _ _ _ _ c.before.before.before.before.before.before.before.before.before.before.before.new.ensures c.before.before.before.before.before.before.all.ensures))
+    (λ c. all_captured _ _ _ _ _ _ _ _ c.before.before.before.before.before.before.before.before.before.before.before.new.ensures c.before.before.before.before.before.before.all.ensures))

@@ -1,4 +1,4 @@
-use Rattle.capturing.proofs.Turns.{event-captured}
+use Rattle.capturing.proofs.Turns.{event_captured}
 use borrow.Author.Rules.{rules}
 use Rattle.capturing.proofs.event.Statement.{statement}
 use Rattle.capturing.proofs.event.Tie as tie
@@ -17,7 +17,7 @@ event-spec =
     (λ c.
     let keep-found-at = c.before.before.before in
     let part_at = keep-found-at.before.before.before in
-    let act-at = part_at.before.before.before.before.before.before in
-    let at_at = act-at.before.before.before in
+    let act_at = part_at.before.before.before.before.before.before in
+    let at_at = act_at.before.before.before in
     let start-at = at_at.before.before.before.before.before in
-    event-captured start-at.args.day _ _ _ _ _ _ _ _ _ _ _ _ _ at_at.at.ensures act-at.act.ensures part_at.part.ensures keep-found-at.keep-found.ensures))
+    event_captured start-at.args.day _ _ _ _ _ _ _ _ _ _ _ _ _ at_at.at.ensures act_at.act.ensures part_at.part.ensures keep-found-at.keep-found.ensures))

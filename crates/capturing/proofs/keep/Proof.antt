@@ -1,4 +1,4 @@
-use Rattle.capturing.proofs.Keeping.{not_done, already-full, no_room, has_room}
+use Rattle.capturing.proofs.Keeping.{not_done, already_full, no_room, has_room}
 use borrow.Author.Rules.{rules}
 use Rattle.capturing.proofs.keep.Statement.{statement}
 use Rattle.capturing.proofs.keep.Tie as tie
@@ -8,7 +8,7 @@ keep_spec =
     tie.close
     (tie.spec
     (λ c. search not_done)
-    (λ c. search already-full)
+    (λ c. search already_full)
     (λ c κs. search rules)
     (λ c. search rules)
     (λ c. search no_room)

@@ -1,4 +1,4 @@
-use Rattle.capturing.proofs.Keeping.{no-frame-write, no-frame-grant, keeps-frame, keeps-sent, no-frame-cut, no-frame-other}
+use Rattle.capturing.proofs.Keeping.{no_frame_write, no_frame_grant, keeps_frame, keeps_sent, no_frame_cut, no_frame_other}
 use borrow.Author.Rules.{rules}
 use Rattle.capturing.proofs.keep_found.Statement.{statement}
 use Rattle.capturing.proofs.keep_found.Tie as tie
@@ -16,11 +16,11 @@ keep-found-spec =
     (λ c κs. search rules)
     (λ c. search rules)
     (λ c. search rules)
-    (λ c. search no-frame-write)
-    (λ c. search no-frame-grant)
+    (λ c. search no_frame_write)
+    (λ c. search no_frame_grant)
     (λ c. search rules)
-    (λ c. search keeps-frame)
+    (λ c. search keeps_frame)
     (λ c. search rules)
-    (λ c. search keeps-sent)
-    (λ c. search no-frame-cut)
-    (λ c. search no-frame-other))
+    (λ c. search keeps_sent)
+    (λ c. search no_frame_cut)
+    (λ c. search no_frame_other))

@@ -1,6 +1,6 @@
 -- `console::answer` meets its contract. Assumes nothing.
 use Rattle.std.proofs.Common.{rules}
-use Rattle.console.proofs.Laws.{answer-silent, answer-called}
+use Rattle.console.proofs.Laws.{answer_silent, answer_called}
 use Rattle.console.proofs.answer.Statement.{statement}
 use Rattle.console.proofs.answer.Tie as tie
 
@@ -11,9 +11,9 @@ answer-spec =
     (λ c κs. search rules)
     (λ c κs. search rules)
     (λ c κs. search rules)
-    (λ c. search answer-silent)
+    (λ c. search answer_silent)
     (λ c κs. search rules)
     (λ c κs. search rules)
     (λ c. search rules)
     (λ c. search rules)
-    (λ c. search answer-called))
+    (λ c. search answer_called))

@@ -1,5 +1,5 @@
 use Rattle.std.proofs.Common.{rules}
-use Rattle.console.proofs.Laws.{asks-called, acts-called}
+use Rattle.console.proofs.Laws.{asks_called, acts_called}
 use Rattle.console.proofs.make.Statement.{statement}
 use Rattle.console.proofs.make.Tie as tie
 
@@ -14,7 +14,7 @@ make_spec =
     (λ c κs. search rules)
     (λ c. search rules)
     (λ c. search rules)
-    (λ c. search (asks-called, acts-called))
+    (λ c. search (asks_called, acts_called))
     (λ c. search rules)
     (λ c. search rules)
-    (λ c. search (asks-called, acts-called)))
+    (λ c. search (asks_called, acts_called)))

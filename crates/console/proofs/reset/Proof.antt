@@ -1,6 +1,6 @@
 -- `console::reset` meets its contract. Assumes nothing.
 use Rattle.std.proofs.Common.{rules}
-use Rattle.console.proofs.Laws.{reset-is}
+use Rattle.console.proofs.Laws.{reset_is}
 use Rattle.console.proofs.reset.Statement.{statement}
 use Rattle.console.proofs.reset.Tie as tie
 
@@ -9,4 +9,4 @@ reset-spec =
     tie.close
     (tie.spec
     (λ c κs. search rules)
-    (λ c. search reset-is))
+    (λ c. search reset_is))

@@ -1,5 +1,5 @@
 use borrow.Author.Rules.{rules}
-use Rattle.counter_trial.proofs.Laws.{burst-left}
+use Rattle.counter_trial.proofs.Laws.{burst_left_lem}
 use Rattle.counter_trial.proofs.counter_trial_burst.Statement.{statement}
 use Rattle.counter_trial.proofs.counter_trial_burst.Tie as tie
 
@@ -17,4 +17,4 @@ counter-trial-burst-spec =
     (λ c. search rules)
     (λ c. search rules)
     (λ c. search rules)
-    (λ c. search burst-left))
+    (λ c. search burst_left_lem))

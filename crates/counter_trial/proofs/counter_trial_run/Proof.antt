@@ -1,5 +1,5 @@
 use borrow.Author.Rules.{rules}
-use Rattle.counter_trial.proofs.Laws.{run-left}
+use Rattle.counter_trial.proofs.Laws.{run_left_lem}
 use Rattle.counter_trial.proofs.counter_trial_run.Statement.{statement}
 use Rattle.counter_trial.proofs.counter_trial_run.Tie as tie
 
@@ -15,4 +15,4 @@ counter-trial-run-spec =
     (λ c. search rules)
     (λ c. search rules)
     (λ c. search rules)
-    (λ c. search run-left))
+    (λ c. search run_left_lem))

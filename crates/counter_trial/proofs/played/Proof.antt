@@ -1,5 +1,5 @@
 use borrow.Author.Rules.{rules}
-use Rattle.counter_trial.proofs.Laws.{played-is}
+use Rattle.counter_trial.proofs.Laws.{played_is}
 use Rattle.counter_trial.proofs.played.Statement.{statement}
 use Rattle.counter_trial.proofs.played.Tie as tie
 
@@ -12,4 +12,4 @@ played-spec =
     (λ c. search rules)
     (λ c. search rules)
     (λ c. search rules)
-    (λ c. search played-is))
+    (λ c. search played_is))

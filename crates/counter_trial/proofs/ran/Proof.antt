@@ -1,5 +1,5 @@
 use borrow.Author.Rules.{rules}
-use Rattle.counter_trial.proofs.Laws.{ran-is}
+use Rattle.counter_trial.proofs.Laws.{ran_is}
 use Rattle.counter_trial.proofs.ran.Statement.{statement}
 use Rattle.counter_trial.proofs.ran.Tie as tie
 
@@ -12,4 +12,4 @@ ran-spec =
     (λ c κs. search rules)
     (λ c. search rules)
     (λ c. search rules)
-    (λ c. search ran-is))
+    (λ c. search ran_is))

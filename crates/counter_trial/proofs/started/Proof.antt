@@ -1,5 +1,5 @@
 use borrow.Author.Rules.{rules}
-use Rattle.counter_trial.proofs.Laws.{started-is}
+use Rattle.counter_trial.proofs.Laws.{started_is}
 use Rattle.counter_trial.proofs.started.Statement.{statement}
 use Rattle.counter_trial.proofs.started.Tie as tie
 
@@ -8,4 +8,4 @@ started-spec =
     tie.close
     (tie.spec
     (λ c κs. search rules)
-    (λ c. search started-is))
+    (λ c. search started_is))

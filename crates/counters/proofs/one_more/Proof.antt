@@ -1,5 +1,5 @@
 use borrow.Author.Rules.{rules}
-use Rattle.counters.proofs.Laws.{below-stop, at-stop}
+use Rattle.counters.proofs.Laws.{below_stop, at_stop}
 use Rattle.counters.proofs.one_more.Statement.{statement}
 use Rattle.counters.proofs.one_more.Tie as tie
 
@@ -8,5 +8,5 @@ one-more-spec =
     tie.close
     (tie.spec
     (λ c. search rules)
-    (λ c. search below-stop)
-    (λ c. search at-stop))
+    (λ c. search below_stop)
+    (λ c. search at_stop))

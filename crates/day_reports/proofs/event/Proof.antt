@@ -1,10 +1,10 @@
 use borrow.Author.Rules.{rules}
-use Rattle.day_reports.specs.DayReports.{eventSays}
+use Rattle.day_reports.specs.DayReports.{event_says}
 use Rattle.day_reports.proofs.event.Statement.{statement}
 use Rattle.day_reports.proofs.event.Tie as tie
 
 pub event-spec : {M : Type 1} → statement M
-unfolding eventSays
+unfolding event_says
 event-spec =
     tie.close
     (tie.spec

@@ -1,5 +1,5 @@
 use borrow.Author.Rules.{rules}
-use Rattle.day_reports.proofs.Laws.{placed-is}
+use Rattle.day_reports.proofs.Laws.{placed_is}
 use Rattle.day_reports.proofs.placed.Statement.{statement}
 use Rattle.day_reports.proofs.placed.Tie as tie
 
@@ -12,4 +12,4 @@ placed-spec =
     (λ c κs. search rules)
     (λ c κs. search rules)
     (λ c. search rules)
-    (λ c. search placed-is))
+    (λ c. search placed_is))

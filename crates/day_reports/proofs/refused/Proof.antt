@@ -1,5 +1,5 @@
 use borrow.Author.Rules.{rules}
-use Rattle.day_reports.proofs.Laws.{refused-block, refused-alone}
+use Rattle.day_reports.proofs.Laws.{refused_block, refused_alone}
 use Rattle.day_reports.proofs.refused.Statement.{statement}
 use Rattle.day_reports.proofs.refused.Tie as tie
 
@@ -10,8 +10,8 @@ refused-spec =
     (λ c. search rules)
     (λ c κs. search rules)
     (λ c. search rules)
-    (λ c. search refused-block)
+    (λ c. search refused_block)
     (λ c. search rules)
     (λ c κs. search rules)
     (λ c. search rules)
-    (λ c. search refused-alone))
+    (λ c. search refused_alone))

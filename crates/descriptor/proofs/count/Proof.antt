@@ -1,5 +1,5 @@
 use borrow.Author.Rules.{rules}
-use Rattle.descriptor.proofs.Laws.{count-is}
+use Rattle.descriptor.proofs.Laws.{count_is}
 use Rattle.descriptor.proofs.count.Statement.{statement}
 use Rattle.descriptor.proofs.count.Tie as tie
 
@@ -9,4 +9,4 @@ count_spec =
     (tie.spec
     (λ c κs. search rules)
     (λ c κs. search rules)
-    (λ c. search count-is))
+    (λ c. search count_is))

@@ -1,5 +1,5 @@
 use borrow.Author.Rules.{rules}
-use Rattle.descriptor.proofs.Laws.{next-is}
+use Rattle.descriptor.proofs.Laws.{next_is}
 use Rattle.descriptor.proofs.next.Statement.{statement}
 use Rattle.descriptor.proofs.next.Tie as tie
 
@@ -9,4 +9,4 @@ next-spec =
     (tie.spec
     (λ c κs. search rules)
     (λ c κs. search rules)
-    (λ c. search next-is))
+    (λ c. search next_is))

@@ -1,5 +1,5 @@
 use borrow.Author.Rules.{rules}
-use Rattle.descriptor.proofs.Laws.{linked-is}
+use Rattle.descriptor.proofs.Laws.{linked_is}
 use Rattle.descriptor.proofs.next_enabled.Statement.{statement}
 use Rattle.descriptor.proofs.next_enabled.Tie as tie
 
@@ -9,4 +9,4 @@ next-enabled-spec =
     (tie.spec
     (λ c κs. search rules)
     (λ c κs. search rules)
-    (λ c. search linked-is))
+    (λ c. search linked_is))

@@ -1,5 +1,5 @@
 use borrow.Author.Rules.{rules}
-use Rattle.descriptor.proofs.Laws.{next-word-is}
+use Rattle.descriptor.proofs.Laws.{next_word_is}
 use Rattle.descriptor.proofs.next_word.Statement.{statement}
 use Rattle.descriptor.proofs.next_word.Tie as tie
 
@@ -10,4 +10,4 @@ next-word-spec =
     (λ c κs. search rules)
     (λ c. search rules)
     (λ c κs. search rules)
-    (λ c. search next-word-is))
+    (λ c. search next_word_is))

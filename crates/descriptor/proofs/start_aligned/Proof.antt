@@ -1,5 +1,5 @@
 use borrow.Author.Rules.{rules}
-use Rattle.descriptor.proofs.Laws.{start-aligned-is}
+use Rattle.descriptor.proofs.Laws.{start_aligned_is}
 use Rattle.descriptor.proofs.start_aligned.Statement.{statement}
 use Rattle.descriptor.proofs.start_aligned.Tie as tie
 
@@ -9,4 +9,4 @@ start-aligned-spec =
     (tie.spec
     (λ c κs. search rules)
     (λ c κs. search rules)
-    (λ c. search start-aligned-is))
+    (λ c. search start_aligned_is))

@@ -1,4 +1,4 @@
-use Rattle.engine_write.proofs.Laws.{next-kept}
+use Rattle.engine_write.proofs.Laws.{next_kept}
 use Rattle.engine_write.proofs.next_written.Statement.{statement}
 use Rattle.engine_write.proofs.next_written.Tie as tie
 
@@ -6,4 +6,4 @@ pub next-written-spec : {M : Type 1} → statement M
 next-written-spec =
     tie.close
     (tie.spec
-    (λ c. next-kept c.args.e c.args.v))
+    (λ c. next_kept c.args.e c.args.v))

@@ -1,5 +1,5 @@
 use borrow.Author.Rules.{rules}
-use Rattle.engine_write.proofs.Laws.{start-ways}
+use Rattle.engine_write.proofs.Laws.{start_ways}
 use Rattle.engine_write.proofs.start_written.Statement.{statement}
 use Rattle.engine_write.proofs.start_written.Tie as tie
 
@@ -8,8 +8,8 @@ start-written-spec =
     tie.close
     (tie.spec
     (λ c κs. search rules)
-    (λ c. search start-ways)
-    (λ c. search start-ways)
+    (λ c. search start_ways)
+    (λ c. search start_ways)
     (λ c κs. search rules)
-    (λ c. search start-ways)
-    (λ c. search start-ways))
+    (λ c. search start_ways)
+    (λ c. search start_ways))

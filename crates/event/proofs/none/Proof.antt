@@ -1,11 +1,11 @@
 use Rattle.rules.proofs.Choices.{choices}
 use borrow.Author.Rules.{rules}
-use Rattle.event.specs.Sizes.{noneBy}
+use Rattle.event.specs.Sizes.{none_by}
 use Rattle.event.proofs.none.Statement.{statement}
 use Rattle.event.proofs.none.Tie as tie
 
 pub none_spec : {M : Type 1} → statement M
-unfolding noneBy
+unfolding none_by
 none_spec =
     tie.close
     (tie.spec

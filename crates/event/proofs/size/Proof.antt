@@ -1,11 +1,11 @@
 use Rattle.rules.proofs.Choices.{choices}
 use borrow.Author.Rules.{rules}
-use Rattle.event.specs.Sizes.{sizeBy}
+use Rattle.event.specs.Sizes.{size_by}
 use Rattle.event.proofs.size.Statement.{statement}
 use Rattle.event.proofs.size.Tie as tie
 
 pub size-spec : {M : Type 1} → statement M
-unfolding sizeBy
+unfolding size_by
 size-spec =
     tie.close
     (tie.spec

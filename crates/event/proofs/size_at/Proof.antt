@@ -1,5 +1,5 @@
 use borrow.Author.Rules.{rules}
-use Rattle.event.proofs.Laws.{size-from, size-other-from, none_from}
+use Rattle.event.proofs.Laws.{size_from, size_other_from, none_from}
 use Rattle.event.proofs.size_at.Statement.{statement}
 use Rattle.event.proofs.size_at.Tie as tie
 
@@ -13,7 +13,7 @@ size-at-spec =
     (λ c κs. search rules)
     (λ c. search rules)
     (λ c κs. search rules)
-    (λ c. search size-from)
+    (λ c. search size_from)
     (λ c. search rules)
     (λ c κs. search rules)
-    (λ c. search size-other-from))
+    (λ c. search size_other_from))

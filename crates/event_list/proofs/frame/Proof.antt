@@ -1,5 +1,5 @@
 use borrow.Author.Rules.{rules}
-use Rattle.event_list.proofs.Laws.{frame-put}
+use Rattle.event_list.proofs.Laws.{frame_put}
 use Rattle.event_list.proofs.frame.Statement.{statement}
 use Rattle.event_list.proofs.frame.Tie as tie
 
@@ -11,4 +11,4 @@ frame-spec =
     (λ c. search rules)
     (λ c κs. search rules)
     (λ c. search rules)
-    (λ c. search frame-put))
+    (λ c. search frame_put))

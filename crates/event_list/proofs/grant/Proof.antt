@@ -1,5 +1,5 @@
 use borrow.Author.Rules.{rules}
-use Rattle.event_list.proofs.Laws.{grant-put}
+use Rattle.event_list.proofs.Laws.{grant_put}
 use Rattle.event_list.proofs.grant.Statement.{statement}
 use Rattle.event_list.proofs.grant.Tie as tie
 
@@ -12,4 +12,4 @@ grant-spec =
     (λ c. search rules)
     (λ c κs. search rules)
     (λ c. search rules)
-    (λ c. search grant-put))
+    (λ c. search grant_put))

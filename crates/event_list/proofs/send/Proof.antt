@@ -1,5 +1,5 @@
 use borrow.Author.Rules.{rules}
-use Rattle.event_list.proofs.Laws.{send-put}
+use Rattle.event_list.proofs.Laws.{send_put}
 use Rattle.event_list.proofs.send.Statement.{statement}
 use Rattle.event_list.proofs.send.Tie as tie
 
@@ -11,4 +11,4 @@ send-spec =
     (λ c. search rules)
     (λ c κs. search rules)
     (λ c. search rules)
-    (λ c. search send-put))
+    (λ c. search send_put))

@@ -1,5 +1,5 @@
 use borrow.Author.Rules.{rules}
-use Rattle.event_list.proofs.Laws.{whole-put}
+use Rattle.event_list.proofs.Laws.{whole_put}
 use Rattle.event_list.proofs.write.Statement.{statement}
 use Rattle.event_list.proofs.write.Tie as tie
 
@@ -12,4 +12,4 @@ write_spec =
     (λ c. search rules)
     (λ c κs. search rules)
     (λ c. search rules)
-    (λ c. search whole-put))
+    (λ c. search whole_put))

@@ -3,7 +3,7 @@ use borrow.Author.Rules.{rules}
 use mathlib.Core.Path.{sym, ap, ◌∙◌}
 use Prim.Native.Nat.{ℕ, ◌-◌}
 use native.Mathlib.Omega.{arith}
-use Rattle.fcs.specs.ShiftRegister.{allOnes}
+use Rattle.fcs.specs.ShiftRegister.{all_ones}
 use Rattle.fcs.proofs.ByteIn.{bytes_bits}
 use Rattle.fcs.proofs.Register.{by_register}
 use Rattle.fcs.proofs.check_number.Statement.{statement}
@@ -12,7 +12,7 @@ use Rattle.fcs.proofs.check_number.Tie as tie
 returns : tie.Need-returns
 returns c =
     let s = c.before.before.args.bytes.now in
-    ap (λ (x : ℕ). allOnes - x) (c.bytes-in.ensures ∙ bytes_bits s (λ i. omega (arith, c.before.shared-slice-known.given i)) allOnes) ∙ sym (by_register s)
+    ap (λ (x : ℕ). all_ones - x) (c.bytes-in.ensures ∙ bytes_bits s (λ i. omega (arith, c.before.shared-slice-known.given i)) all_ones) ∙ sym (by_register s)
 
 pub check-number-spec : {M : Type 1} → statement M
 check-number-spec = tie.close (tie.spec (λ c κs. search rules) returns)

@@ -1,7 +1,7 @@
 -- The proof of the recursion `digits`. The measure is the number of digits left. Assumes nothing.
 use native.Mathlib.Omega.{arith}
 use borrow.Author.Rules.{rules}
-use Rattle.fields.proofs.Laws.{digits-none, digits_last, digits_more}
+use Rattle.fields.proofs.Laws.{digits_none, digits_last, digits_more}
 use Prim.Native.Nat.{ℕ, ◌<◌}
 use borrow.Fn.Kinds.{In}
 use borrow.Fn.PlainCycle.{Measures, is, falls, and}
@@ -36,7 +36,7 @@ pub +digits-spec : {M : Type 1} → statement M
     (λ c. search rules)
     (λ c κs. tt)
     (λ c. search rules)
-    (λ c. search digits-none)
+    (λ c. search digits_none)
     (λ c. search rules)
     (λ c. search rules)
     (λ c κs. tt)

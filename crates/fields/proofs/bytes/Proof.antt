@@ -1,7 +1,7 @@
 -- `fields::bytes` meets its contract. Assumes nothing.
 use borrow.Author.Rules.{rules}
-use Rattle.text.proofs.Laws.{put-within}
-use Rattle.fields.proofs.Laws.{bytes-none, bytes-some}
+use Rattle.text.proofs.Laws.{put_within}
+use Rattle.fields.proofs.Laws.{bytes_none, bytes_some}
 use Rattle.fields.proofs.bytes.Statement.{statement}
 use Rattle.fields.proofs.bytes.Tie as tie
 
@@ -12,8 +12,8 @@ bytes-spec =
     (λ c. search rules)
     (λ c κs. search rules)
     (λ c. search rules)
-    (λ c. search bytes-none)
+    (λ c. search bytes_none)
     (λ c κs. search rules)
-    (λ c κs. search put-within)
+    (λ c κs. search put_within)
     (λ c. search rules)
-    (λ c. search bytes-some))
+    (λ c. search bytes_some))

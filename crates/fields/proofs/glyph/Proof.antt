@@ -1,6 +1,6 @@
 -- `fields::glyph` meets its contract. Assumes nothing.
 use borrow.Author.Rules.{rules}
-use Rattle.fields.proofs.Laws.{glyph-digit, glyph-letter}
+use Rattle.fields.proofs.Laws.{glyph_digit, glyph_letter}
 use Rattle.fields.proofs.glyph.Statement.{statement}
 use Rattle.fields.proofs.glyph.Tie as tie
 
@@ -9,6 +9,6 @@ glyph-spec =
     tie.close
     (tie.spec
     (λ c. search rules)
-    (λ c. glyph-digit _ c.if1.true)
+    (λ c. glyph_digit _ c.if1.true)
     (λ c. search rules)
-    (λ c. glyph-letter _ c.if1.false))
+    (λ c. glyph_letter _ c.if1.false))

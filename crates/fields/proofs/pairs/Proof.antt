@@ -6,8 +6,8 @@ use Prim.Native.Nat.{◌-◌, ◌≤◌}
 use lib.ListN.{length, drop}
 use Rattle.text.specs.Text.{put}
 use Rattle.fields.specs.Fields.{pairs}
-use Rattle.text.proofs.Laws.{put-within}
-use Rattle.fields.proofs.Laws.{each_turn, each-end}
+use Rattle.text.proofs.Laws.{put_within}
+use Rattle.fields.proofs.Laws.{each_turn, each_end}
 use Rattle.fields.proofs.pairs.Statement.{statement}
 use Rattle.fields.proofs.pairs.Tie as tie
 
@@ -34,13 +34,13 @@ loop-less : tie.Need-loop-smaller invariant-loop decreases-loop
 loop-less c = omega arith
 
 loop-again : tie.Need-loop-preserved invariant-loop decreases-loop
-loop-again c = (search each_turn, (omega arith, (omega arith, search put-within)))
+loop-again c = (search each_turn, (omega arith, (omega arith, search put_within)))
 
 same_length : tie.Need-same-length invariant-loop decreases-loop
 same_length c = search rules
 
 returns : tie.Need-returns invariant-loop decreases-loop
-returns c = search each-end
+returns c = search each_end
 
 pub pairs-spec : {M : Type 1} → statement M
 pairs-spec =

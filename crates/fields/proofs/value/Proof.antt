@@ -1,7 +1,7 @@
 -- `fields::value` meets its contract. Assumes nothing.
 use borrow.Author.Rules.{rules}
-use Rattle.text.proofs.Laws.{put-within}
-use Rattle.fields.proofs.Laws.{value-is}
+use Rattle.text.proofs.Laws.{put_within}
+use Rattle.fields.proofs.Laws.{value_is}
 use Rattle.fields.proofs.value.Statement.{statement}
 use Rattle.fields.proofs.value.Tie as tie
 
@@ -15,6 +15,6 @@ value_spec =
     (λ c. search rules)
     (λ c. search rules)
     (λ c. search rules)
-    (λ c κs. search put-within)
+    (λ c κs. search put_within)
     (λ c. search rules)
-    (λ c. search value-is))
+    (λ c. search value_is))

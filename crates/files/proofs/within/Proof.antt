@@ -1,4 +1,4 @@
-use Rattle.files.proofs.Laws.{fewer, all-of-them}
+use Rattle.files.proofs.Laws.{fewer, all_of_them}
 use Rattle.files.proofs.within.Statement.{statement}
 use Rattle.files.proofs.within.Tie as tie
 
@@ -7,4 +7,4 @@ within-spec =
     tie.close
     (tie.spec
     (λ c. fewer _ c.before.args.buffer.now c.if1.true)
-    (λ c. all-of-them _ c.before.args.buffer.now c.if1.false))
+    (λ c. all_of_them _ c.before.args.buffer.now c.if1.false))

@@ -1,5 +1,5 @@
 use borrow.Author.Rules.{rules}
-use Rattle.granting.proofs.Laws.{grant-refused, grant-done}
+use Rattle.granting.proofs.Laws.{grant_refused, grant_done}
 use Rattle.granting.proofs.grant.Statement.{statement}
 use Rattle.granting.proofs.grant.Tie as tie
 
@@ -9,7 +9,7 @@ grant-spec =
     (tie.spec
     (λ c κs. search rules)
     (λ c. search rules)
-    (λ c. search grant-refused)
+    (λ c. search grant_refused)
     (λ c κs. search rules)
     (λ c. search rules)
-    (λ c. search grant-done))
+    (λ c. search grant_done))

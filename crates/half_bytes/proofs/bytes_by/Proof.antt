@@ -5,13 +5,13 @@ use mathlib.Core.Path.{◌≡◌, refl, sym, ◌∙◌}
 use Prim.Native.Nat.{◌≤◌, ◌<◌, ◌-◌}
 use native.Mathlib.Omega.{arith}
 use lib.ListN.{length, drop}
-use Rattle.half_bytes.specs.Clocks.{bytesIn, feedback802}
-use Rattle.half_bytes.proofs.HalfBytes.{byte-turn, byte-end}
+use Rattle.half_bytes.specs.Clocks.{bytes_in, feedback802}
+use Rattle.half_bytes.proofs.HalfBytes.{byte_turn, byte_end}
 use Rattle.half_bytes.proofs.bytes_by.Statement.{statement}
 use Rattle.half_bytes.proofs.bytes_by.Tie as tie
 
 abbrev invariant-loop : tie.invariant-loop
-invariant-loop t from bytes r₀ i₀ r i = (i ≤ length bytes) × (bytesIn feedback802 r (drop i bytes) ≡ bytesIn feedback802 from bytes)
+invariant-loop t from bytes r₀ i₀ r i = (i ≤ length bytes) × (bytes_in feedback802 r (drop i bytes) ≡ bytes_in feedback802 from bytes)
 
 abbrev decreases-loop : tie.decreases-loop
 decreases-loop t from bytes r₀ i₀ r i = length bytes - i
@@ -35,10 +35,10 @@ loop-again : tie.Need-loop-preserved invariant-loop decreases-loop
 loop-again c =
     let at = c.before.before.before in
     let h : at.loop.i < length at.before.before.args.bytes.now = omega arith in
-    (omega arith, rw c.byte-in.ensures (sym (byte-turn _ _ _ _ h) ∙ at.loop.invariant.1))
+    (omega arith, rw c.byte-in.ensures (sym (byte_turn _ _ _ _ h) ∙ at.loop.invariant.1))
 
 returns : tie.Need-returns invariant-loop decreases-loop
-returns c = sym (byte-end _ _ c.before.before.before.args.bytes.now c.before.loop.i (omega arith)) ∙ c.before.loop.invariant.1
+returns c = sym (byte_end _ _ c.before.before.before.args.bytes.now c.before.loop.i (omega arith)) ∙ c.before.loop.invariant.1
 
 pub bytes-by-spec : {M : Type 1} → statement M
 bytes-by-spec = tie.close (tie.spec invariant-loop decreases-loop loop-holds shared-slice-read-byte-in byte-in-requires add-i loop-less loop-again returns)

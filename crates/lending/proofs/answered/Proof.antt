@@ -1,6 +1,6 @@
 -- `lending::answered` meets its contract. Assumes nothing.
 use borrow.Author.Rules.{rules}
-use Rattle.lending.proofs.Laws.{answered-is}
+use Rattle.lending.proofs.Laws.{answered_is}
 use Rattle.lending.proofs.answered.Statement.{statement}
 use Rattle.lending.proofs.answered.Tie as tie
 
@@ -15,4 +15,4 @@ answered-spec =
     (λ c.
     let e = c.before.before.before.before.before.before.before.before.args in
     let h = c.before.before.before.numbered in
-    answered-is e.console _ _ _ _ _ _ _ c.next.ensures h.ensures))
+    answered_is e.console _ _ _ _ _ _ _ c.next.ensures h.ensures))

@@ -1,7 +1,7 @@
 -- `lending::frame` meets its contract. Assumes nothing.
 use borrow.Author.Rules.{rules}
 use mathlib.Core.Path.{refl}
-use Rattle.commands.proofs.Laws.{within-fits, within-long, within-seen, within-kept}
+use Rattle.commands.proofs.Laws.{within_fits, within_long, within_seen, within_kept}
 use Rattle.lending.proofs.Laws.{frame_made}
 use Rattle.lending.proofs.frame.Statement.{statement}
 use Rattle.lending.proofs.frame.Tie as tie
@@ -14,8 +14,8 @@ frame-spec =
     (λ c. search rules)
     (λ c κs. search rules)
     (λ c κs. search rules)
-    (λ c. search (rules, within-fits))
-    (λ c. search (rules, within-long))
+    (λ c. search (rules, within_fits))
+    (λ c. search (rules, within_long))
     (λ c. search rules)
     (λ c κs. search rules)
     (λ c κs. search rules)
@@ -30,7 +30,7 @@ frame-spec =
     let n = d.before.before.before.before.within in
     let p = d.before.part in
     let a = c.before.before.answered in
-    let seen = within-seen _ _ _ _ refl n.ensures in
-    let kept = within-kept _ _ _ _ refl n.ensures in
+    let seen = within_seen _ _ _ _ refl n.ensures in
+    let kept = within_kept _ _ _ _ refl n.ensures in
     frame_made _ _ _ _ _ _ n.result seen kept
     _ _ _ _ _ _ _ o.ensures k.ensures p.ensures d.receive.ensures a.ensures.0 a.ensures.1))

@@ -1,8 +1,8 @@
 -- `lending::grant` meets its contract. Assumes nothing.
 use borrow.Author.Rules.{rules}
 use mathlib.Core.Path.{refl}
-use Rattle.commands.proofs.Laws.{within-fits, within-long, within-seen, within-kept}
-use Rattle.lending.proofs.Laws.{grant-made}
+use Rattle.commands.proofs.Laws.{within_fits, within_long, within_seen, within_kept}
+use Rattle.lending.proofs.Laws.{grant_made}
 use Rattle.lending.proofs.grant.Statement.{statement}
 use Rattle.lending.proofs.grant.Tie as tie
 
@@ -11,8 +11,8 @@ grant-spec =
     tie.close
     (tie.spec
     (λ c κs. search rules)
-    (λ c. search (rules, within-fits))
-    (λ c. search (rules, within-long))
+    (λ c. search (rules, within_fits))
+    (λ c. search (rules, within_long))
     (λ c κs. search rules)
     (λ c. search rules)
     (λ c κs. search rules)
@@ -22,6 +22,6 @@ grant-spec =
     let n = c.before.before.before.before.before.before.before.before.before.within in
     let g = c.before.before.before.before.before.before.before.grant in
     let a = c.before.before.answered in
-    let seen = within-seen _ _ _ _ refl n.ensures in
-    let kept = within-kept _ _ _ _ refl n.ensures in
-    grant-made _ _ _ _ _ _ n.result seen kept _ _ _ g.ensures a.ensures.0 a.ensures.1))
+    let seen = within_seen _ _ _ _ refl n.ensures in
+    let kept = within_kept _ _ _ _ refl n.ensures in
+    grant_made _ _ _ _ _ _ n.result seen kept _ _ _ g.ensures a.ensures.0 a.ensures.1))

@@ -1,5 +1,5 @@
 use borrow.Author.Rules.{rules}
-use Rattle.lending.proofs.Laws.{tick-made}
+use Rattle.lending.proofs.Laws.{tick_made}
 use Rattle.lending.proofs.tick.Statement.{statement}
 use Rattle.lending.proofs.tick.Tie as tie
 
@@ -12,4 +12,4 @@ tick-spec =
     (λ c. search rules)
     (λ c κs. search rules)
     (λ c. search rules)
-    (λ c. search tick-made))
+    (λ c. search tick_made))

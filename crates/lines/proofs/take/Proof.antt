@@ -1,6 +1,6 @@
 -- `lines::take` meets its contract. Assumes nothing.
 use borrow.Author.Rules.{rules}
-use Rattle.lines.proofs.Laws.{feed-at, feed-behind, part-ends, part-goes-on}
+use Rattle.lines.proofs.Laws.{feed_at, feed_behind, part_ends, part_goes_on}
 use Rattle.lines.proofs.take.Statement.{statement}
 use Rattle.lines.proofs.take.Tie as tie
 
@@ -14,7 +14,7 @@ take_spec =
     (λ c κs. search rules)
     (λ c κs. search rules)
     (λ c κs. search rules)
-    (λ c. search feed-at)
-    (λ c. search feed-behind)
-    (λ c. search part-ends)
-    (λ c. search part-goes-on))
+    (λ c. search feed_at)
+    (λ c. search feed_behind)
+    (λ c. search part_ends)
+    (λ c. search part_goes_on))

@@ -1,7 +1,7 @@
 -- `list_reports::listed` meets its contract. Assumes nothing.
 use borrow.Author.Rules.{rules}
-use Rattle.text.proofs.Laws.{put-within}
-use Rattle.list_reports.proofs.Laws.{listed-is}
+use Rattle.text.proofs.Laws.{put_within}
+use Rattle.list_reports.proofs.Laws.{listed_is}
 use Rattle.list_reports.proofs.listed.Statement.{statement}
 use Rattle.list_reports.proofs.listed.Tie as tie
 
@@ -11,7 +11,7 @@ listed-spec =
     (tie.spec
     (λ c κs. search rules)
     (λ c κs. search rules)
-    (λ c κs. search put-within)
+    (λ c κs. search put_within)
     (λ c κs. search rules)
     (λ c. search rules)
-    (λ c. search listed-is))
+    (λ c. search listed_is))

@@ -5,9 +5,9 @@ use mathlib.Core.Path.{◌≡◌, refl}
 use Prim.Native.Nat.{◌-◌, ◌≤◌}
 use lib.ListN.{length, drop}
 use Rattle.text.specs.Text.{put}
-use Rattle.text.proofs.Laws.{put-within}
+use Rattle.text.proofs.Laws.{put_within}
 use Rattle.fields.specs.Fields.{each, number}
-use Rattle.fields.proofs.Laws.{each_turn, each-end}
+use Rattle.fields.proofs.Laws.{each_turn, each_end}
 use Rattle.list_reports.proofs.numbers.Statement.{statement}
 use Rattle.list_reports.proofs.numbers.Tie as tie
 
@@ -31,6 +31,6 @@ numbers-spec =
     let d = c.before.before in
     let l = d.before.before.before.before.loop in
     let test = d.before.before.before.loop-test in
-    (each_turn _ _ _ _ _ _ l.i _ d.one.ensures test.true l.invariant.0, (omega arith, (omega arith, put-within _ _ _ _ _ d.one.ensures))))
+    (each_turn _ _ _ _ _ _ l.i _ d.one.ensures test.true l.invariant.0, (omega arith, (omega arith, put_within _ _ _ _ _ d.one.ensures))))
     (λ c. search rules)
-    (λ c. search each-end))
+    (λ c. search each_end))

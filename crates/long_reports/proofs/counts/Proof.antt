@@ -1,6 +1,6 @@
 -- `long_reports::counts` meets its contract. Assumes nothing.
 use borrow.Author.Rules.{rules}
-use Rattle.long_reports.proofs.Laws.{counts-is}
+use Rattle.long_reports.proofs.Laws.{counts_is}
 use Rattle.long_reports.proofs.counts.Statement.{statement}
 use Rattle.long_reports.proofs.counts.Tie as tie
 
@@ -12,4 +12,4 @@ counts-spec =
     (λ c κs. search rules)
     (λ c κs. search rules)
     (λ c. search rules)
-    (λ c. search counts-is))
+    (λ c. search counts_is))

@@ -1,6 +1,6 @@
 -- `long_reports::engine` meets its contract. Assumes nothing.
 use borrow.Author.Rules.{rules}
-use Rattle.long_reports.proofs.Laws.{engine-runs, engine-stands}
+use Rattle.long_reports.proofs.Laws.{engine_runs, engine_stands}
 use Rattle.long_reports.proofs.engine.Statement.{statement}
 use Rattle.long_reports.proofs.engine.Tie as tie
 
@@ -11,8 +11,8 @@ engine-spec =
     (λ c κs. search rules)
     (λ c κs. search rules)
     (λ c. search rules)
-    (λ c. search engine-runs)
+    (λ c. search engine_runs)
     (λ c κs. search rules)
     (λ c κs. search rules)
     (λ c. search rules)
-    (λ c. search engine-stands))
+    (λ c. search engine_stands))

@@ -1,6 +1,6 @@
 -- `long_reports::engines` meets its contract. Assumes nothing.
 use borrow.Author.Rules.{rules}
-use Rattle.long_reports.proofs.Laws.{engines-is}
+use Rattle.long_reports.proofs.Laws.{engines_is}
 use Rattle.long_reports.proofs.engines.Statement.{statement}
 use Rattle.long_reports.proofs.engines.Tie as tie
 
@@ -13,4 +13,4 @@ engines-spec =
     (λ c κs. search rules)
     (λ c κs. search rules)
     (λ c. search rules)
-    (λ c. search engines-is))
+    (λ c. search engines_is))

@@ -1,6 +1,6 @@
 -- `long_reports::ran` meets its contract. Assumes nothing.
 use borrow.Author.Rules.{rules}
-use Rattle.long_reports.proofs.Laws.{ran-is}
+use Rattle.long_reports.proofs.Laws.{ran_is}
 use Rattle.long_reports.proofs.ran.Statement.{statement}
 use Rattle.long_reports.proofs.ran.Tie as tie
 
@@ -13,4 +13,4 @@ ran-spec =
     (λ c κs. search rules)
     (λ c κs. search rules)
     (λ c. search rules)
-    (λ c. search ran-is))
+    (λ c. search ran_is))

@@ -1,4 +1,4 @@
-use Rattle.memory.proofs.Laws.{part-whole, part_none, part-rest}
+use Rattle.memory.proofs.Laws.{part_whole, part_none, part_rest}
 use native.Mathlib.Omega.{arith}
 use lib.ListN.{length-take}
 use borrow.Author.Rules.{rules}
@@ -16,8 +16,8 @@ part-spec =
     (λ c. search rules)
     (λ c. search rules)
     (λ c. search rules)
-    (λ c. let a = c.before.before.before.args in part-whole a.m.now a.at a.n)
+    (λ c. let a = c.before.before.before.args in part_whole a.m.now a.at a.n)
     (λ c. search rules)
     (λ c. search rules)
     (λ c. search rules)
-    (λ c. let a = c.before.before.before.args in part-rest a.m.now a.at a.n c.before.if2.false))
+    (λ c. let a = c.before.before.before.args in part_rest a.m.now a.at a.n c.before.if2.false))

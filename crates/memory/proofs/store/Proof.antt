@@ -5,7 +5,7 @@ use native.Mathlib.Omega.{arith}
 use borrow.Author.Rules.{rules}
 use lib.ListN.{length, drop, length-set}
 use lib.Seq.{sets}
-use Rattle.memory.proofs.Laws.{sets-turn, all-stored, store_out}
+use Rattle.memory.proofs.Laws.{sets_turn, all_stored, store_out}
 use Rattle.memory.proofs.store.Statement.{statement}
 use Rattle.memory.proofs.store.Tie as tie
 
@@ -46,14 +46,14 @@ loop-again : tie.Need-loop-preserved invariant-loop decreases-loop
 loop-again c =
     let l = c.before.before.loop in
     let a = c.before.before.before.before.before.before.before.args in
-    let e = sets-turn l.m a.s.now a.at l.i (omega arith) in
+    let e = sets_turn l.m a.s.now a.at l.i (omega arith) in
     (omega arith, (simp length-set l.invariant.1.0, e ∙ l.invariant.1.1))
 
 same_length : tie.Need-same-length invariant-loop decreases-loop
 same_length c = search rules
 
 returns-2 : tie.Need-returns-2 invariant-loop decreases-loop
-returns-2 c = search all-stored
+returns-2 c = search all_stored
 
 pub store_spec : {M : Type 1} → statement M
 store_spec =

@@ -1,4 +1,4 @@
-use Rattle.memory.proofs.Laws.{word-stored, store_out}
+use Rattle.memory.proofs.Laws.{word_stored, store_out}
 use borrow.Author.Rules.{rules}
 use Rattle.memory.proofs.store_word.Statement.{statement}
 use Rattle.memory.proofs.store_word.Tie as tie
@@ -25,4 +25,4 @@ store-word-spec =
     let s₃ = s₄.before.before.before.before in
     let s₂ = s₃.before.before.before.before in
     let s₁ = s₂.before.before.before.before in
-    word-stored _ _ _ _ _ _ _ s₁.IsStore-byte.ensures s₂.store-byte2.ensures s₃.store-byte3.ensures s₄.store-byte4.ensures))
+    word_stored _ _ _ _ _ _ _ s₁.IsStore-byte.ensures s₂.store-byte2.ensures s₃.store-byte3.ensures s₄.store-byte4.ensures))

@@ -4,8 +4,8 @@ use Prim.Native.Nat.{◌+◌, ◌-◌, ◌≤◌}
 use native.Mathlib.Omega.{arith}
 use lib.ListN.{length, drop, length-set}
 use lib.Seq.{sets}
-use Rattle.memory.proofs.Laws.{all-stored}
-use Rattle.number_list.proofs.Laws.{front-turn}
+use Rattle.memory.proofs.Laws.{all_stored}
+use Rattle.number_list.proofs.Laws.{front_turn}
 use Rattle.number_list.proofs.put.Statement.{statement}
 use Rattle.number_list.proofs.put.Tie as tie
 
@@ -26,7 +26,7 @@ returns : tie.Need-returns invariant-loop decreases-loop
 returns c =
     let l = c.before.before.loop in
     let k = l.invariant.1.0 in
-    all-stored _ l.list _ 0 l.i (length l.list) l.invariant.1.0 c.if1.true (inr (omega arith)) l.invariant.1.1
+    all_stored _ l.list _ 0 l.i (length l.list) l.invariant.1.0 c.if1.true (inr (omega arith)) l.invariant.1.1
 
 mul-list : tie.Need-overflow-mul-list invariant-loop decreases-loop
 mul-list c = omega arith
@@ -49,7 +49,7 @@ loop-less c = omega arith
 loop-again : tie.Need-loop-preserved invariant-loop decreases-loop
 loop-again c =
     let l = c.before.before.before.loop in
-    let e = front-turn l.list c.before.before.before.before.args.numbers.now l.i (omega arith) in
+    let e = front_turn l.list c.before.before.before.before.args.numbers.now l.i (omega arith) in
     (omega arith, (simp length-set l.invariant.1.0, e ∙ l.invariant.1.1))
 
 same-length-2 : tie.Need-same-length-2 invariant-loop decreases-loop
@@ -58,7 +58,7 @@ same-length-2 c = c.before.loop.invariant.1.0
 returns-2 : tie.Need-returns-2 invariant-loop decreases-loop
 returns-2 c =
     let l = c.before.loop in
-    all-stored _ l.list _ 0 l.i _ l.invariant.1.0 c.loop-test.false (inl refl) l.invariant.1.1
+    all_stored _ l.list _ 0 l.i _ l.invariant.1.0 c.loop-test.false (inl refl) l.invariant.1.1
 
 pub put_spec : {M : Type 1} → statement M
 put_spec =

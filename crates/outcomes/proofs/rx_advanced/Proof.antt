@@ -1,5 +1,5 @@
 use borrow.Author.Rules.{rules}
-use Rattle.outcomes.proofs.Laws.{rx-moves, rx-ends}
+use Rattle.outcomes.proofs.Laws.{rx_moves, rx_ends}
 use Rattle.outcomes.proofs.rx_advanced.Statement.{statement}
 use Rattle.outcomes.proofs.rx_advanced.Tie as tie
 
@@ -8,6 +8,6 @@ rx-advanced-spec =
     tie.close
     (tie.spec
     (λ c κs. search rules)
-    (λ c. search rx-moves)
+    (λ c. search rx_moves)
     (λ c κs. search rules)
-    (λ c. search rx-ends))
+    (λ c. search rx_ends))

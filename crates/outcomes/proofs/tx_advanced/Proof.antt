@@ -1,5 +1,5 @@
 use borrow.Author.Rules.{rules}
-use Rattle.outcomes.proofs.Laws.{tx-moves, tx-ends}
+use Rattle.outcomes.proofs.Laws.{tx_moves, tx_ends}
 use Rattle.outcomes.proofs.tx_advanced.Statement.{statement}
 use Rattle.outcomes.proofs.tx_advanced.Tie as tie
 
@@ -8,6 +8,6 @@ tx-advanced-spec =
     tie.close
     (tie.spec
     (λ c κs. search rules)
-    (λ c. search tx-moves)
+    (λ c. search tx_moves)
     (λ c κs. search rules)
-    (λ c. search tx-ends))
+    (λ c. search tx_ends))

@@ -1,5 +1,5 @@
 use borrow.Author.Rules.{rules}
-use Rattle.outcomes.proofs.Laws.{tx-refused-ways}
+use Rattle.outcomes.proofs.Laws.{tx_refused_ways}
 use Rattle.outcomes.proofs.tx_refused.Statement.{statement}
 use Rattle.outcomes.proofs.tx_refused.Tie as tie
 
@@ -8,9 +8,9 @@ tx-refused-spec =
     tie.close
     (tie.spec
     (λ c κs. search rules)
-    (λ c. search tx-refused-ways)
+    (λ c. search tx_refused_ways)
     (λ c κs. search rules)
-    (λ c. search tx-refused-ways)
+    (λ c. search tx_refused_ways)
     (λ c κs. search rules)
-    (λ c. search tx-refused-ways)
-    (λ c. search tx-refused-ways))
+    (λ c. search tx_refused_ways)
+    (λ c. search tx_refused_ways))

@@ -1,8 +1,8 @@
 -- `outgoing::send` meets its contract. Assumes nothing.
 use borrow.Author.Rules.{rules}
 use mathlib.Core.Path.{refl}
-use Rattle.commands.proofs.Laws.{within-fits, within-long, within-seen, within-kept}
-use Rattle.outgoing.proofs.Laws.{send-made}
+use Rattle.commands.proofs.Laws.{within_fits, within_long, within_seen, within_kept}
+use Rattle.outgoing.proofs.Laws.{send_made}
 use Rattle.outgoing.proofs.send.Statement.{statement}
 use Rattle.outgoing.proofs.send.Tie as tie
 
@@ -14,9 +14,9 @@ send-spec =
     (λ c κs. search rules)
     (λ c κs. search rules)
     (λ c. search rules)
-    (λ c. search (rules, within-long))
-    (λ c. search (rules, within-fits))
-    (λ c. search (rules, within-long))
+    (λ c. search (rules, within_long))
+    (λ c. search (rules, within_fits))
+    (λ c. search (rules, within_long))
     (λ c κs. search rules)
     (λ c. search rules)
     (λ c κs. search rules)
@@ -33,8 +33,8 @@ send-spec =
     let s = d.send in
     let p = c.before.before.before.before.before.part in
     let h = c.before.before.before.before.shown in
-    let seen = within-seen _ _ _ _ refl n.ensures in
-    let kept = within-kept _ _ _ _ refl n.ensures in
-    let cut = within-seen a.result _ _ _ a.ensures.1 k.ensures in
-    send-made _ _ _ a.result _ _ _ _ _ _ n.result k.result e.room _ seen kept
+    let seen = within_seen _ _ _ _ refl n.ensures in
+    let kept = within_kept _ _ _ _ refl n.ensures in
+    let cut = within_seen a.result _ _ _ a.ensures.1 k.ensures in
+    send_made _ _ _ a.result _ _ _ _ _ _ n.result k.result e.room _ seen kept
     a.ensures.0 cut _ s.ensures p.ensures h.ensures c.next.ensures))

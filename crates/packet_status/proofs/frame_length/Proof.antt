@@ -1,5 +1,5 @@
 use borrow.Author.Rules.{rules}
-use Rattle.packet_status.proofs.Laws.{bits-10-to-0}
+use Rattle.packet_status.proofs.Laws.{bits_10_to_0}
 use Rattle.packet_status.proofs.frame_length.Statement.{statement}
 use Rattle.packet_status.proofs.frame_length.Tie as tie
 
@@ -8,4 +8,4 @@ frame-length-spec =
     tie.close
     (tie.spec
     (λ c κs. search rules)
-    (λ c. search bits-10-to-0))
+    (λ c. search bits_10_to_0))

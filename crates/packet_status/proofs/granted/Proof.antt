@@ -1,5 +1,5 @@
 use borrow.Author.Rules.{rules}
-use Rattle.packet_status.proofs.Laws.{bit-16}
+use Rattle.packet_status.proofs.Laws.{bit_16}
 use Rattle.packet_status.proofs.granted.Statement.{statement}
 use Rattle.packet_status.proofs.granted.Tie as tie
 
@@ -8,4 +8,4 @@ granted-spec =
     tie.close
     (tie.spec
     (λ c κs. search rules)
-    (λ c. search bit-16))
+    (λ c. search bit_16))

@@ -1,5 +1,5 @@
 use borrow.Author.Rules.{rules}
-use Rattle.packet_status.proofs.Laws.{fourth-word}
+use Rattle.packet_status.proofs.Laws.{fourth_word}
 use Rattle.packet_status.proofs.packet_status.Statement.{statement}
 use Rattle.packet_status.proofs.packet_status.Tie as tie
 
@@ -10,4 +10,4 @@ packet-status-spec =
     (λ c κs. search rules)
     (λ c. search rules)
     (λ c κs. search rules)
-    (λ c. search fourth-word))
+    (λ c. search fourth_word))

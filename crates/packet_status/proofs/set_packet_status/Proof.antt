@@ -1,5 +1,5 @@
 use borrow.Author.Rules.{rules}
-use Rattle.packet_status.proofs.Laws.{fourth-word-written}
+use Rattle.packet_status.proofs.Laws.{fourth_word_written}
 use Rattle.packet_status.proofs.set_packet_status.Statement.{statement}
 use Rattle.packet_status.proofs.set_packet_status.Tie as tie
 
@@ -11,4 +11,4 @@ set-packet-status-spec =
     (λ c. search rules)
     (λ c κs. search rules)
     (λ c. search rules)
-    (λ c. search fourth-word-written))
+    (λ c. search fourth_word_written))

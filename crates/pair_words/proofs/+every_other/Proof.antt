@@ -3,7 +3,7 @@ use native.Mathlib.Omega.{arith}
 use borrow.Author.Rules.{rules}
 use lib.ListN.{length-set}
 use Rattle.memory.proofs.Laws.{store_out}
-use Rattle.pair_words.proofs.Laws.{numbers-none, numbers_more}
+use Rattle.pair_words.proofs.Laws.{numbers_none, numbers_more}
 use Prim.Native.Nat.{ℕ, ◌<◌}
 use borrow.Fn.Kinds.{In}
 use borrow.Fn.PlainCycle.{Measures, is, falls, and}
@@ -40,7 +40,7 @@ pub +every-other-spec : {M : Type 1} → statement M
 )
     (every-other-at t)
     every-other.Post
-    (λ c. search numbers-none)
+    (λ c. search numbers_none)
     (λ c. search store_out)
     (λ c κs. tt)
     (λ c κs. tt)

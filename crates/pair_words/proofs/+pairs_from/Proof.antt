@@ -1,7 +1,7 @@
 -- The proof of the recursion `pairs_from`. The measure is the number of pairs that may come. Assumes nothing.
 use native.Mathlib.Omega.{arith}
 use borrow.Author.Rules.{rules}
-use Rattle.pair_words.proofs.Laws.{pairs-none, pairs_start, pairs-length, pairs-last, pairs-more}
+use Rattle.pair_words.proofs.Laws.{pairs_none, pairs_start, pairs_length, pairs_last, pairs_more}
 use Prim.Native.Nat.{ℕ, ◌<◌}
 use borrow.Fn.Kinds.{In}
 use borrow.Fn.PlainCycle.{Measures, is, falls, and}
@@ -41,19 +41,19 @@ pub +pairs-from-spec : {M : Type 1} → statement M
 )
     (pairs-from-at t)
     pairs-from.Post
-    (λ c. search pairs-none)
+    (λ c. search pairs_none)
     (λ c κs. tt)
     (λ c κs. tt)
     (λ c. search pairs_start)
     (λ c κs. tt)
     (λ c κs. tt)
     (λ c κs. tt)
-    (λ c. search pairs-length)
+    (λ c. search pairs_length)
     (λ c κs. tt)
     (λ c. omega arith)
-    (λ c. search pairs-last)
+    (λ c. search pairs_last)
     (λ c κs. tt)
     (λ c. search rules)
     (λ c. omega arith)
     (λ c κs. (omega arith, omega arith))
-    (λ c. search pairs-more)
+    (λ c. search pairs_more)

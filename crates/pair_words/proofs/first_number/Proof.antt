@@ -1,6 +1,6 @@
 -- `pair_words::first_number` meets its contract. Assumes nothing.
 use borrow.Author.Rules.{rules}
-use Rattle.pair_words.proofs.Laws.{first-number-is}
+use Rattle.pair_words.proofs.Laws.{first_number_is}
 use Rattle.pair_words.proofs.first_number.Statement.{statement}
 use Rattle.pair_words.proofs.first_number.Tie as tie
 
@@ -10,4 +10,4 @@ first-number-spec =
     (tie.spec
     (λ c κs. search rules)
     (λ c κs. search rules)
-    (λ c. search first-number-is))
+    (λ c. search first_number_is))

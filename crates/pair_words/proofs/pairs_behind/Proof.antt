@@ -1,6 +1,6 @@
 -- `pair_words::pairs_behind` meets its contract. Assumes nothing.
 use borrow.Author.Rules.{rules}
-use Rattle.pair_words.proofs.Laws.{behind-wrong, behind-none, behind-some}
+use Rattle.pair_words.proofs.Laws.{behind_wrong, behind_none, behind_some}
 use Rattle.pair_words.proofs.pairs_behind.Statement.{statement}
 use Rattle.pair_words.proofs.pairs_behind.Tie as tie
 
@@ -11,9 +11,9 @@ pairs-behind-spec =
     (λ c κs. search rules)
     (λ c κs. search rules)
     (λ c κs. search rules)
-    (λ c. search behind-wrong)
+    (λ c. search behind_wrong)
     (λ c κs. search rules)
-    (λ c. search behind-none)
+    (λ c. search behind_none)
     (λ c κs. search rules)
     (λ c κs. search rules)
-    (λ c. search behind-some))
+    (λ c. search behind_some))

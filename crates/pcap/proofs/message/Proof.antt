@@ -1,4 +1,4 @@
-use Rattle.pcap.proofs.Laws.{no-message, some-message}
+use Rattle.pcap.proofs.Laws.{no_message, some_message}
 use borrow.Author.Rules.{rules}
 use Rattle.pcap.proofs.message.Statement.{statement}
 use Rattle.pcap.proofs.message.Tie as tie
@@ -8,7 +8,7 @@ message-spec =
     tie.close
     (tie.spec
     (λ c κs. search rules)
-    (λ c. search no-message)
+    (λ c. search no_message)
     (λ c. search rules)
     (λ c κs. search rules)
-    (λ c. search some-message))
+    (λ c. search some_message))

@@ -1,4 +1,4 @@
-use Rattle.pcap.proofs.Laws.{header-put}
+use Rattle.pcap.proofs.Laws.{header_put}
 use borrow.Author.Rules.{rules}
 use Rattle.pcap.proofs.put_header.Statement.{statement}
 use Rattle.pcap.proofs.put_header.Tie as tie
@@ -11,4 +11,4 @@ put-header-spec =
     (λ c. search rules)
     (λ c κs. search rules)
     (λ c. search rules)
-    (λ c. search header-put))
+    (λ c. search header_put))

@@ -1,5 +1,5 @@
 use Rattle.memory.proofs.Laws.{store_out}
-use Rattle.pcap.proofs.Laws.{record-put}
+use Rattle.pcap.proofs.Laws.{record_put}
 use borrow.Author.Rules.{rules}
 use Rattle.pcap.proofs.put_record.Statement.{statement}
 use Rattle.pcap.proofs.put_record.Tie as tie
@@ -16,4 +16,4 @@ put-record-spec =
     (λ c. search rules)
     (λ c κs. search rules)
     (λ c. search rules)
-    (λ c. search record-put))
+    (λ c. search record_put))

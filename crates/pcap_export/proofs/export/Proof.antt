@@ -1,6 +1,6 @@
 use mathlib.Core.Path.{ap}
 use Rattle.pcap_list.specs.declared.Listed.{Listed}
-use Rattle.pcap_export.proofs.Ways.{refuses, not-refused, exports}
+use Rattle.pcap_export.proofs.Ways.{refuses, not_refused, exports}
 use borrow.Author.Rules.{rules}
 use Rattle.pcap_export.proofs.export.Statement.{statement}
 use Rattle.pcap_export.proofs.export.Tie as tie
@@ -18,7 +18,7 @@ export-spec =
     let test_at = put-header-at.before.before in
     let number_at = test_at.before in
     let walk_at = number_at.before in
-    not-refused _ _ _ _ walk_at.walk.ensures number_at.number.ensures _ test_at.if1.false put-header-at.put-header.ensures)
+    not_refused _ _ _ _ walk_at.walk.ensures number_at.number.ensures _ test_at.if1.false put-header-at.put-header.ensures)
     (λ c. search rules)
     (λ c. search rules)
     (λ c.

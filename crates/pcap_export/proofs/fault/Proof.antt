@@ -1,4 +1,4 @@
-use Rattle.pcap_export.proofs.Ways.{wrong-length, wrong-check, no-fault}
+use Rattle.pcap_export.proofs.Ways.{wrong_length, wrong_check, no_fault}
 use borrow.Author.Rules.{rules}
 use Rattle.pcap_export.proofs.fault.Statement.{statement}
 use Rattle.pcap_export.proofs.fault.Tie as tie
@@ -8,7 +8,7 @@ fault-spec =
     tie.close
     (tie.spec
     (λ c κs. search rules)
-    (λ c. search wrong-length)
+    (λ c. search wrong_length)
     (λ c κs. search rules)
-    (λ c. search wrong-check)
-    (λ c. search no-fault))
+    (λ c. search wrong_check)
+    (λ c. search no_fault))

@@ -1,4 +1,4 @@
-use Rattle.pcap_import.proofs.Filling.{part-behind}
+use Rattle.pcap_import.proofs.Filling.{part_behind}
 use borrow.Author.Rules.{rules}
 use Rattle.pcap_import.proofs.records_of.Statement.{statement}
 use Rattle.pcap_import.proofs.records_of.Tie as tie
@@ -8,4 +8,4 @@ records-of-spec =
     tie.close
     (tie.spec
     (λ c κs. search rules)
-    (λ c. search part-behind))
+    (λ c. search part_behind))

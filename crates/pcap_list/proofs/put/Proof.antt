@@ -1,4 +1,4 @@
-use Rattle.pcap_list.proofs.Laws.{entry-put}
+use Rattle.pcap_list.proofs.Laws.{entry_put}
 use borrow.Author.Rules.{rules}
 use Rattle.pcap_list.proofs.put.Statement.{statement}
 use Rattle.pcap_list.proofs.put.Tie as tie
@@ -12,4 +12,4 @@ put_spec =
     (λ c κs. search rules)
     (λ c κs. search rules)
     (λ c. search rules)
-    (λ c. search entry-put))
+    (λ c. search entry_put))

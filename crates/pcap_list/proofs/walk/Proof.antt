@@ -2,7 +2,7 @@
 use Prim.Native.Nat.{◌-◌}
 use native.Mathlib.Omega.{arith}
 use lib.ListN.{length}
-use Rattle.pcap_list.proofs.Laws.{Walking, walking-begins, walking-room, walking_on, walking-ends}
+use Rattle.pcap_list.proofs.Laws.{Walking, walking_begins, walking_room, walking_on, walking_ends}
 use borrow.Author.Rules.{rules}
 use Rattle.pcap_list.proofs.walk.Statement.{statement}
 use Rattle.pcap_list.proofs.walk.Tie as tie
@@ -20,10 +20,10 @@ walk-spec =
     invariant-loop
     decreases-loop
     (λ c κs. search rules)
-    (λ c. search walking-begins)
-    (λ c. let r = walking-room _ _ _ _ c.before.loop.invariant in omega arith)
-    (λ c. let r = walking-room _ _ _ _ c.before.loop.invariant in let few = c.before.loop.invariant.few in omega arith)
+    (λ c. search walking_begins)
+    (λ c. let r = walking_room _ _ _ _ c.before.loop.invariant in omega arith)
+    (λ c. let r = walking_room _ _ _ _ c.before.loop.invariant in let few = c.before.loop.invariant.few in omega arith)
     (λ c κs. search rules)
-    (λ c. let r = walking-room _ _ _ _ c.before.before.loop.invariant in omega arith)
+    (λ c. let r = walking_room _ _ _ _ c.before.before.loop.invariant in omega arith)
     (λ c. search walking_on)
-    (λ c. search walking-ends))
+    (λ c. search walking_ends))

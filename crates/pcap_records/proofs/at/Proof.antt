@@ -1,4 +1,4 @@
-use Rattle.pcap_records.proofs.Laws.{nothing_left, cut-head, cut-frame, unequal, equal}
+use Rattle.pcap_records.proofs.Laws.{nothing_left, cut_head, cut_frame, unequal, equal}
 use borrow.Author.Rules.{rules}
 use Rattle.pcap_records.proofs.at.Statement.{statement}
 use Rattle.pcap_records.proofs.at.Tie as tie
@@ -9,11 +9,11 @@ at-spec =
     (tie.spec
     (λ c. search nothing_left)
     (λ c. search rules)
-    (λ c. search cut-head)
+    (λ c. search cut_head)
     (λ c. search rules)
     (λ c κs. search rules)
     (λ c. search rules)
-    (λ c. search cut-frame)
+    (λ c. search cut_frame)
     (λ c. search rules)
     (λ c κs. search rules)
     (λ c. search unequal)

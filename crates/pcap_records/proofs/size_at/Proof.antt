@@ -1,4 +1,4 @@
-use Rattle.pcap_records.proofs.Walks.{size-here}
+use Rattle.pcap_records.proofs.Walks.{size_here}
 use borrow.Author.Rules.{rules}
 use Rattle.pcap_records.proofs.size_at.Statement.{statement}
 use Rattle.pcap_records.proofs.size_at.Tie as tie
@@ -8,4 +8,4 @@ size-at-spec =
     tie.close
     (tie.spec
     (λ c κs. search rules)
-    (λ c. search size-here))
+    (λ c. search size_here))

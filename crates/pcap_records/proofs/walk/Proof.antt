@@ -2,7 +2,7 @@
 use Prim.Native.Nat.{◌-◌}
 use native.Mathlib.Omega.{arith}
 use lib.ListN.{length}
-use Rattle.pcap_records.proofs.Walks.{Walking, walking-begins, walking-room, walking_on, walking-ends}
+use Rattle.pcap_records.proofs.Walks.{Walking, walking_begins, walking_room, walking_on, walking_ends}
 use borrow.Author.Rules.{rules}
 use Rattle.pcap_records.proofs.walk.Statement.{statement}
 use Rattle.pcap_records.proofs.walk.Tie as tie
@@ -20,11 +20,11 @@ walk-spec =
     invariant-loop
     decreases-loop
     (λ c κs. search rules)
-    (λ c. search walking-begins)
+    (λ c. search walking_begins)
     (λ c κs. search rules)
-    (λ c. let r = walking-room _ _ _ _ _ c.before.before.before.loop.invariant in omega arith)
-    (λ c. let r = walking-room _ _ _ _ _ c.before.before.before.loop.invariant in let few = c.before.before.before.loop.invariant.few in omega arith)
+    (λ c. let r = walking_room _ _ _ _ _ c.before.before.before.loop.invariant in omega arith)
+    (λ c. let r = walking_room _ _ _ _ _ c.before.before.before.loop.invariant in let few = c.before.before.before.loop.invariant.few in omega arith)
     (λ c κs. search rules)
-    (λ c. let r = walking-room _ _ _ _ _ c.before.before.before.before.loop.invariant in omega arith)
+    (λ c. let r = walking_room _ _ _ _ _ c.before.before.before.before.loop.invariant in omega arith)
     (λ c. walking_on _ _ _ _ _ c.before.before.before.before.loop.invariant _ _ c.before.before.if1.true c.before.storable-too.ensures c.at2.ensures)
-    (λ c. walking-ends _ _ _ _ _ c.before.before.loop.invariant c.if1.false))
+    (λ c. walking_ends _ _ _ _ _ c.before.before.loop.invariant c.if1.false))

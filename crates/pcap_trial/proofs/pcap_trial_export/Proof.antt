@@ -1,4 +1,4 @@
-use Rattle.pcap_trial.proofs.Laws.{export-left}
+use Rattle.pcap_trial.proofs.Laws.{export_left}
 use borrow.Author.Rules.{rules}
 use Rattle.pcap_trial.proofs.pcap_trial_export.Statement.{statement}
 use Rattle.pcap_trial.proofs.pcap_trial_export.Tie as tie
@@ -13,4 +13,4 @@ pcap-trial-export-spec =
     (λ c κs. search rules)
     (λ c. search rules)
     (λ c. search rules)
-    (λ c. export-left _ _ _ _ _ _ c.before.before.before.before.before.before.before.before.export.ensures c.before.before.put.ensures))
+    (λ c. export_left _ _ _ _ _ _ c.before.before.before.before.before.before.before.before.export.ensures c.before.before.put.ensures))

@@ -1,4 +1,4 @@
-use Rattle.pcap_trial.proofs.Laws.{import-left}
+use Rattle.pcap_trial.proofs.Laws.{import_left}
 use borrow.Author.Rules.{rules}
 use Rattle.pcap_trial.proofs.pcap_trial_import.Statement.{statement}
 use Rattle.pcap_trial.proofs.pcap_trial_import.Tie as tie
@@ -14,4 +14,4 @@ pcap-trial-import-spec =
     (λ c. search rules)
     (λ c. search rules)
     (λ c. search rules)
-    (λ c. import-left _ _ _ _ _ _ _ _ c.before.before.before.before.before.before.before.before.before.before.import.ensures c.before.before.put.ensures))
+    (λ c. import_left _ _ _ _ _ _ _ _ c.before.before.before.before.before.before.before.before.before.before.import.ensures c.before.before.put.ensures))

@@ -1,6 +1,6 @@
 -- `peeking::check` meets its contract. Assumes nothing.
 use borrow.Author.Rules.{rules}
-use Rattle.peeking.proofs.Laws.{check-says}
+use Rattle.peeking.proofs.Laws.{check_says_lem}
 use Rattle.peeking.proofs.check.Statement.{statement}
 use Rattle.peeking.proofs.check.Tie as tie
 
@@ -18,4 +18,4 @@ check-spec =
     let p = c.before.before.before.before.before.before.part in
     let n = c.before.before.before.check-number in
     let h = c.before.before.valued in
-    check-says _ _ _ _ _ _ _ p.ensures n.ensures h.ensures))
+    check_says_lem _ _ _ _ _ _ _ p.ensures n.ensures h.ensures))

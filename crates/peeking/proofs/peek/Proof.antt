@@ -1,6 +1,6 @@
 -- `peeking::peek` meets its contract. Assumes nothing.
 use borrow.Author.Rules.{rules}
-use Rattle.peeking.proofs.Laws.{peek-outside, peek-inside}
+use Rattle.peeking.proofs.Laws.{peek_outside, peek_inside}
 use Rattle.peeking.proofs.peek.Statement.{statement}
 use Rattle.peeking.proofs.peek.Tie as tie
 
@@ -16,7 +16,7 @@ peek_spec =
     let w = c.before.before.before.before.before.before.in_window in
     let i = c.before.before.before.before.before.if1 in
     let h = c.before.before.said in
-    peek-outside _ _ _ _ _ _ _ _ w.ensures i.true h.ensures)
+    peek_outside _ _ _ _ _ _ _ _ w.ensures i.true h.ensures)
     (λ c κs. search rules)
     (λ c. search rules)
     (λ c κs. search rules)
@@ -28,4 +28,4 @@ peek_spec =
     let o = c.before.before.before.before.before.before.offset in
     let p = c.before.before.before.part in
     let h = c.before.before.held in
-    peek-inside _ _ _ _ _ _ _ _ w.ensures _ _ i.false o.ensures p.ensures h.ensures))
+    peek_inside _ _ _ _ _ _ _ _ w.ensures _ _ i.false o.ensures p.ensures h.ensures))

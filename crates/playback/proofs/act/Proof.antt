@@ -1,6 +1,6 @@
 -- `playback::act` meets its contract. Assumes nothing.
 use borrow.Author.Rules.{rules}
-use Rattle.playback.proofs.Laws.{act-write, act-grant, act-frame, act-send, act-cut, act-no-event}
+use Rattle.playback.proofs.Laws.{act_write, act_grant, act_frame, act_send, act_cut, act_no_event}
 use Rattle.playback.proofs.act.Statement.{statement}
 use Rattle.playback.proofs.act.Tie as tie
 
@@ -24,13 +24,13 @@ act-spec =
     (λ c κs. search rules)
     (λ c. search rules)
     (λ c κs. search rules)
-    (λ c. search act-write)
+    (λ c. search act_write)
     (λ c. search rules)
-    (λ c. search act-grant)
+    (λ c. search act_grant)
     (λ c. search rules)
-    (λ c. search act-frame)
+    (λ c. search act_frame)
     (λ c. search rules)
     (λ c. search rules)
-    (λ c. search act-send)
-    (λ c. search act-cut)
-    (λ c. search act-no-event))
+    (λ c. search act_send)
+    (λ c. search act_cut)
+    (λ c. search act_no_event))

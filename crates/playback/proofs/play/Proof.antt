@@ -6,7 +6,7 @@ use native.Mathlib.Omega.{arith}
 use borrow.Author.Rules.{rules}
 use lib.ListN.{length}
 use Rattle.playback.specs.Playing.{played}
-use Rattle.playback.proofs.Turns.{Playing, playing-begins, playing-room, playing-on, playing-ends, turns-play}
+use Rattle.playback.proofs.Turns.{Playing, playing_begins, playing_room, playing_on, playing_ends, turns_play}
 use Rattle.playback.proofs.play.Statement.{statement}
 use Rattle.playback.proofs.play.Tie as tie
 
@@ -23,7 +23,7 @@ size-at-requires : tie.Need-size-at-requires invariant-loop decreases-loop
 size-at-requires c κs = search rules
 
 loop-holds : tie.Need-loop-init invariant-loop decreases-loop
-loop-holds c = (search playing-begins, (omega arith, (refl, (refl, refl))))
+loop-holds c = (search playing_begins, (omega arith, (refl, (refl, refl))))
 
 turn-requires : tie.Need-turn-requires invariant-loop decreases-loop
 turn-requires c κs = search rules
@@ -31,14 +31,14 @@ turn-requires c κs = search rules
 add-place : tie.Need-overflow-add-place invariant-loop decreases-loop
 add-place c =
     let l = c.before.before.before.before.before.before.before.before.before.before.before.loop in
-    let r = playing-room _ _ _ _ _ _ l.invariant.0 in
+    let r = playing_room _ _ _ _ _ _ l.invariant.0 in
     let few = l.invariant.1.0 in
     omega arith
 
 add-i : tie.Need-overflow-add-i invariant-loop decreases-loop
 add-i c =
     let l = c.before.before.before.before.before.before.before.before.before.before.before.loop in
-    let r = playing-room _ _ _ _ _ _ l.invariant.0 in
+    let r = playing_room _ _ _ _ _ _ l.invariant.0 in
     let few = l.invariant.1.0 in
     omega arith
 
@@ -47,14 +47,14 @@ size-at-requires-2 c κs = search rules
 
 loop-less : tie.Need-loop-smaller invariant-loop decreases-loop
 loop-less c =
-    let r = playing-room _ _ _ _ _ _ c.before.before.before.before.before.before.before.before.before.before.before.before.loop.invariant.0 in
+    let r = playing_room _ _ _ _ _ _ c.before.before.before.before.before.before.before.before.before.before.before.before.loop.invariant.0 in
     omega arith
 
 loop-again : tie.Need-loop-preserved invariant-loop decreases-loop
 loop-again c =
     let l = c.before.before.before.before.before.before.before.before.before.before.before.before.loop in
     let o = c.before.before.before.before.before.before.before.turn in
-    let on = playing-on _ _ _ _ _ _ _ _ l.invariant.0 c.before.before.before.before.before.before.before.before.before.before.before.loop-test.true o.ensures c.size-at2.ensures in
+    let on = playing_on _ _ _ _ _ _ _ _ l.invariant.0 c.before.before.before.before.before.before.before.before.before.before.before.loop-test.true o.ensures c.size-at2.ensures in
     (on, (l.invariant.1.0, (o.auto.1.0 ∙ l.invariant.1.1.0, (o.auto.1.1.0 ∙ l.invariant.1.1.1.0, o.auto.1.1.1.1.1.0 ∙ l.invariant.1.1.1.1))))
 
 same_length : tie.Need-same-length invariant-loop decreases-loop
@@ -70,7 +70,7 @@ returns : tie.Need-returns invariant-loop decreases-loop
 returns c =
     let l = c.before.loop in
     let a = c.before.before.before.before.before.before.before.args in
-    playing-ends _ _ _ _ _ _ l.invariant.0 c.loop-test.false ∙ turns-play _ _ _ a.list.now
+    playing_ends _ _ _ _ _ _ l.invariant.0 c.loop-test.false ∙ turns_play _ _ _ a.list.now
 
 pub play-spec : {M : Type 1} → statement M
 play-spec =

@@ -5,7 +5,7 @@ use mathlib.Core.Path.{◌≡◌, refl}
 use mathlib.Core.List.{◌++◌}
 use Prim.Native.Nat.{◌-◌, ◌≤◌}
 use lib.ListN.{length, drop, replicate, length-set}
-use Rattle.poking.proofs.Zeros.{zeros-more, zeros-end}
+use Rattle.poking.proofs.Zeros.{zeros_more, zeros_end}
 use Rattle.poking.proofs.clear.Statement.{statement}
 use Rattle.poking.proofs.clear.Tie as tie
 
@@ -31,7 +31,7 @@ loop-less c = simp length-set (omega arith)
 loop-again : tie.Need-loop-preserved invariant-loop decreases-loop
 loop-again c =
     let at = c.before.loop in
-    let more = zeros-more c.before.before.args.memory.now at.memory at.i at.invariant.1.1 (omega arith) in
+    let more = zeros_more c.before.before.args.memory.now at.memory at.i at.invariant.1.1 (omega arith) in
     (simp length-set (omega arith), (simp length-set (omega arith), more))
 
 same_length : tie.Need-same-length invariant-loop decreases-loop
@@ -40,7 +40,7 @@ same_length c = omega arith
 returns : tie.Need-returns invariant-loop decreases-loop
 returns c =
     let at = c.before.loop in
-    zeros-end c.before.before.args.memory.now at.memory at.i at.invariant.1.1 (omega arith) (omega arith)
+    zeros_end c.before.before.args.memory.now at.memory at.i at.invariant.1.1 (omega arith) (omega arith)
 
 pub clear_spec : {M : Type 1} → statement M
 clear_spec =

@@ -1,7 +1,7 @@
 -- `poking::poke` meets its contract. Assumes nothing.
 use borrow.Author.Rules.{rules}
-use Rattle.forms.proofs.NamedLaws.{named-short}
-use Rattle.poking.proofs.Laws.{poke-is}
+use Rattle.forms.proofs.NamedLaws.{named_short}
+use Rattle.poking.proofs.Laws.{poke_is}
 use Rattle.poking.proofs.poke.Statement.{statement}
 use Rattle.poking.proofs.poke.Tie as tie
 
@@ -14,7 +14,7 @@ poke_spec =
     (λ c κs. search rules)
     (λ c. search rules)
     (λ c κs. search rules)
-    (λ c κs. search named-short)
+    (λ c κs. search named_short)
     (λ c. search rules)
     (λ c. search rules)
     (λ c κs. search rules)
@@ -26,4 +26,4 @@ poke_spec =
     let p = c.before.before.before.before.before.before.before.before.before.before.part in
     let s = c.before.before.before.before.before.before.before.before.stored in
     let h = c.before.before.either in
-    poke-is _ _ _ _ _ _ _ _ _ _ _ _ _ _ b.ensures d.ensures p.ensures s.ensures.0 s.ensures.1 h.ensures))
+    poke_is _ _ _ _ _ _ _ _ _ _ _ _ _ _ b.ensures d.ensures p.ensures s.ensures.0 s.ensures.1 h.ensures))

@@ -1,6 +1,6 @@
 -- `poking::stored` meets its contract. Assumes nothing.
 use borrow.Author.Rules.{rules}
-use Rattle.poking.proofs.Laws.{stored-outside, stored-inside}
+use Rattle.poking.proofs.Laws.{stored_outside, stored_inside}
 use Rattle.poking.proofs.stored.Statement.{statement}
 use Rattle.poking.proofs.stored.Tie as tie
 
@@ -10,7 +10,7 @@ stored-spec =
     (tie.spec
     (λ c. search rules)
     (λ c κs. search rules)
-    (λ c. stored-outside _ _ _ _ _ _ c.before.in_window.ensures c.if1.true)
+    (λ c. stored_outside _ _ _ _ _ _ c.before.in_window.ensures c.if1.true)
     (λ c κs. search rules)
     (λ c κs. search rules)
     (λ c. search rules)
@@ -19,4 +19,4 @@ stored-spec =
     let i = c.before.before.before.before.before.if1 in
     let o = c.before.before.before.before.offset in
     let m = c.before.before.store in
-    stored-inside _ _ _ _ _ _ w.ensures _ _ _ i.false o.ensures m.ensures))
+    stored_inside _ _ _ _ _ _ w.ensures _ _ _ i.false o.ensures m.ensures))

@@ -1,6 +1,6 @@
 -- `queries::counters` meets its contract. Assumes nothing.
 use borrow.Author.Rules.{rules}
-use Rattle.queries.proofs.Laws.{counters-say}
+use Rattle.queries.proofs.Laws.{counters_say_lem}
 use Rattle.queries.proofs.counters.Statement.{statement}
 use Rattle.queries.proofs.counters.Tie as tie
 
@@ -12,4 +12,4 @@ counters-spec =
     (λ c. search rules)
     (λ c κs. search rules)
     (λ c. search rules)
-    (λ c. search counters-say))
+    (λ c. search counters_say_lem))

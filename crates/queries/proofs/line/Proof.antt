@@ -1,6 +1,6 @@
 -- `queries::line` meets its contract. Assumes nothing.
 use borrow.Author.Rules.{rules}
-use Rattle.queries.proofs.Laws.{line-says}
+use Rattle.queries.proofs.Laws.{line_says_lem}
 use Rattle.queries.proofs.line.Statement.{statement}
 use Rattle.queries.proofs.line.Tie as tie
 
@@ -13,4 +13,4 @@ line-spec =
     (λ c. search rules)
     (λ c κs. search rules)
     (λ c. search rules)
-    (λ c. search line-says))
+    (λ c. search line_says_lem))

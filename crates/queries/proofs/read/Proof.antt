@@ -1,6 +1,6 @@
 -- `queries::read` meets its contract. Assumes nothing.
 use borrow.Author.Rules.{rules}
-use Rattle.queries.proofs.Laws.{read-says}
+use Rattle.queries.proofs.Laws.{read_says_lem}
 use Rattle.queries.proofs.read.Statement.{statement}
 use Rattle.queries.proofs.read.Tie as tie
 
@@ -15,4 +15,4 @@ read_spec =
     (λ c.
     let r = c.before.before.before.before.before.read in
     let h = c.before.before.read2 in
-    read-says _ _ _ _ _ _ r.ensures h.ensures))
+    read_says_lem _ _ _ _ _ _ r.ensures h.ensures))

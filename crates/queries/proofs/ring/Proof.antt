@@ -1,6 +1,6 @@
 -- `queries::ring` meets its contract. Assumes nothing.
 use borrow.Author.Rules.{rules}
-use Rattle.queries.proofs.Laws.{ring-says}
+use Rattle.queries.proofs.Laws.{ring_says_lem}
 use Rattle.queries.proofs.ring.Statement.{statement}
 use Rattle.queries.proofs.ring.Tie as tie
 
@@ -13,4 +13,4 @@ ring-spec =
     (λ c. search rules)
     (λ c κs. search rules)
     (λ c. search rules)
-    (λ c. search ring-says))
+    (λ c. search ring_says_lem))

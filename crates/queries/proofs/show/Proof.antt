@@ -1,6 +1,6 @@
 -- `queries::show` meets its contract. Assumes nothing.
 use borrow.Author.Rules.{rules}
-use Rattle.queries.proofs.Laws.{show-says}
+use Rattle.queries.proofs.Laws.{show_says_lem}
 use Rattle.queries.proofs.show.Statement.{statement}
 use Rattle.queries.proofs.show.Tie as tie
 
@@ -17,4 +17,4 @@ show-spec =
     let n = c.before.before.before.before.before.before.reading-number in
     let r = c.before.before.before.reading in
     let h = c.before.before.shown in
-    show-says _ _ _ _ _ _ _ _ n.ensures r.ensures h.ensures))
+    show_says_lem _ _ _ _ _ _ _ _ n.ensures r.ensures h.ensures))

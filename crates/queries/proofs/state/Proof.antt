@@ -1,6 +1,6 @@
 -- `queries::state` meets its contract. Assumes nothing.
 use borrow.Author.Rules.{rules}
-use Rattle.queries.proofs.Laws.{state-says}
+use Rattle.queries.proofs.Laws.{state_says_lem}
 use Rattle.queries.proofs.state.Statement.{statement}
 use Rattle.queries.proofs.state.Tie as tie
 
@@ -11,4 +11,4 @@ state-spec =
     (λ c. search rules)
     (λ c κs. search rules)
     (λ c. search rules)
-    (λ c. state-says _ _ _ _ c.before.before.engines.ensures))
+    (λ c. state_says_lem _ _ _ _ c.before.before.engines.ensures))

@@ -1,5 +1,5 @@
 use borrow.Author.Rules.{rules}
-use Rattle.reading.proofs.Laws.{reading-refused, reading-short, reading-is}
+use Rattle.reading.proofs.Laws.{reading_refused, reading_short, reading_is}
 use Rattle.reading.proofs.reading.Statement.{statement}
 use Rattle.reading.proofs.reading.Tie as tie
 
@@ -9,12 +9,12 @@ reading-spec =
     (tie.spec
     (λ c κs. tt)
     (λ c. search rules)
-    (λ c. search reading-refused)
+    (λ c. search reading_refused)
     (λ c κs. tt)
     (λ c. search rules)
     (λ c. search rules)
-    (λ c. search reading-short)
+    (λ c. search reading_short)
     (λ c κs. tt)
     (λ c κs. tt)
     (λ c κs. tt)
-    (λ c. search reading-is))
+    (λ c. search reading_is))

@@ -1,4 +1,4 @@
-use Rattle.reading.proofs.Laws.{other-length-11, not-shown-13, shown-0}
+use Rattle.reading.proofs.Laws.{other_length_11, not_shown_13, shown_0}
 use Rattle.reading.proofs.reading_number.Statement.{statement}
 use Rattle.reading.proofs.reading_number.Tie as tie
 
@@ -9,7 +9,7 @@ reading-number-spec =
     (λ c κs. tt)
     (λ c.
     let a = c.before.before.before.args in
-    other-length-11 a.base a.window a.m.now a.d _ c.before.lent.ensures c.if1.true)
+    other_length_11 a.base a.window a.m.now a.d _ c.before.lent.ensures c.if1.true)
     (λ c κs. tt)
-    (λ c. let i = c.before.before in not-shown-13 _ _ _ _ _ i.before.lent.ensures _ i.if1.false c.before.shown.ensures c.if2.true)
-    (λ c. let i = c.before.before in shown-0 _ _ _ _ _ i.before.lent.ensures _ i.if1.false c.before.shown.ensures c.if2.false))
+    (λ c. let i = c.before.before in not_shown_13 _ _ _ _ _ i.before.lent.ensures _ i.if1.false c.before.shown.ensures c.if2.true)
+    (λ c. let i = c.before.before in shown_0 _ _ _ _ _ i.before.lent.ensures _ i.if1.false c.before.shown.ensures c.if2.false))

@@ -1,5 +1,5 @@
 use borrow.Author.Rules.{rules}
-use Rattle.reading.proofs.Laws.{misaligned, descriptor-outside, still-granted, start-misaligned, length-refused, by-frame-bytes}
+use Rattle.reading.proofs.Laws.{misaligned, descriptor_outside, still_granted, start_misaligned, length_refused, by_frame_bytes}
 use Rattle.reading.proofs.shown.Statement.{statement}
 use Rattle.reading.proofs.shown.Tie as tie
 
@@ -10,15 +10,15 @@ shown-spec =
     (λ c κs. tt)
     (λ c. search misaligned)
     (λ c κs. tt)
-    (λ c. search descriptor-outside)
+    (λ c. search descriptor_outside)
     (λ c κs. tt)
-    (λ c. search still-granted)
+    (λ c. search still_granted)
     (λ c κs. tt)
-    (λ c. search start-misaligned)
+    (λ c. search start_misaligned)
     (λ c κs. tt)
     (λ c. search rules)
     (λ c κs. tt)
-    (λ c. search length-refused)
+    (λ c. search length_refused)
     (λ c κs. tt)
     (λ c κs. tt)
-    (λ c. search by-frame-bytes))
+    (λ c. search by_frame_bytes))

@@ -1,7 +1,7 @@
 -- `reason::status` meets its contract. Assumes nothing.
 use borrow.Author.Rules.{rules}
-use Rattle.reason.specs.Reason.{reasonNumber}
-use Rattle.reason.proofs.Laws.{bits_fit, status-sum}
+use Rattle.reason.specs.Reason.{reason_number}
+use Rattle.reason.proofs.Laws.{bits_fit, status_sum}
 use Rattle.reason.proofs.status.Statement.{statement}
 use Rattle.reason.proofs.status.Tie as tie
 
@@ -10,5 +10,5 @@ status-spec =
     tie.close
     (tie.spec
     (λ c κs. search rules)
-    (λ c. let small = bits_fit (reasonNumber c.before.args.reason) _ c.bits.ensures in search rules)
-    (λ c. search status-sum))
+    (λ c. let small = bits_fit (reason_number c.before.args.reason) _ c.bits.ensures in search rules)
+    (λ c. search status_sum))

@@ -1,6 +1,6 @@
 use borrow.Author.Rules.{rules}
-use Rattle.receiving.proofs.Numbers.{received-short}
-use Rattle.receiving.proofs.Laws.{receive-refused, receive-done}
+use Rattle.receiving.proofs.Numbers.{received_short}
+use Rattle.receiving.proofs.Laws.{receive_refused, receive_done}
 use Rattle.receiving.proofs.receive.Statement.{statement}
 use Rattle.receiving.proofs.receive.Tie as tie
 
@@ -12,10 +12,10 @@ receive-spec =
     (λ c κs. search rules)
     (λ c κs. search rules)
     (λ c. search rules)
-    (λ c. search receive-refused)
+    (λ c. search receive_refused)
     (λ c κs. search rules)
     (λ c κs. search rules)
-    (λ c κs. search received-short)
+    (λ c κs. search received_short)
     (λ c κs. search rules)
     (λ c. search rules)
-    (λ c. search receive-done))
+    (λ c. search receive_done))

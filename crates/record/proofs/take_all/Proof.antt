@@ -1,7 +1,7 @@
 -- `record::take_all` is safe and ends: each turn takes a part of the input. Assumes nothing.
 use borrow.Author.Rules.{rules}
 use Prim.Native.Nat.{◌≤◌}
-use Rattle.lines.proofs.Turns.{turn-less}
+use Rattle.lines.proofs.Turns.{turn_less}
 use Rattle.record.proofs.take_all.Statement.{statement}
 use Rattle.record.proofs.take_all.Tie as tie
 
@@ -24,7 +24,7 @@ taken-requires : tie.Need-taken-requires invariant-loop decreases-loop
 taken-requires c κs = search rules
 
 loop-less : tie.Need-loop-smaller invariant-loop decreases-loop
-loop-less c = search turn-less
+loop-less c = search turn_less
 
 loop-again : tie.Need-loop-preserved invariant-loop decreases-loop
 loop-again c = search rules

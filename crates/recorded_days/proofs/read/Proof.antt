@@ -1,4 +1,4 @@
-use Rattle.recorded_days.proofs.Laws.{too_long, whole-file}
+use Rattle.recorded_days.proofs.Laws.{too_long, whole_file}
 use borrow.Author.Rules.{rules}
 use Rattle.recorded_days.proofs.read.Statement.{statement}
 use Rattle.recorded_days.proofs.read.Tie as tie
@@ -11,4 +11,4 @@ read_spec =
     (λ c κs. search rules)
     (λ c κs. search rules)
     (λ c. search rules)
-    (λ c. search whole-file))
+    (λ c. search whole_file))

@@ -1,5 +1,5 @@
 use borrow.Author.Rules.{rules}
-use Rattle.recording.proofs.LineLaws.{first-new, first-poke, first-write, first-grant, first_frame, first-send, first-other}
+use Rattle.recording.proofs.LineLaws.{first_new, first_poke, first_write, first_grant, first_frame, first_send, first_other}
 use Rattle.recording.proofs.first.Statement.{statement}
 use Rattle.recording.proofs.first.Tie as tie
 
@@ -21,10 +21,10 @@ first_spec =
     (λ c κs. search rules)
     (λ c. search rules)
     (λ c κs. search rules)
-    (λ c. search first-new)
-    (λ c. search first-poke)
-    (λ c. search first-write)
-    (λ c. search first-grant)
+    (λ c. search first_new)
+    (λ c. search first_poke)
+    (λ c. search first_write)
+    (λ c. search first_grant)
     (λ c. search first_frame)
-    (λ c. search first-send)
-    (λ c. search first-other))
+    (λ c. search first_send)
+    (λ c. search first_other))

@@ -1,5 +1,5 @@
 use borrow.Author.Rules.{rules}
-use Rattle.recording.proofs.LineLaws.{later-new, later-poke, later_write, later-grant, later-frame, later-send, later-other}
+use Rattle.recording.proofs.LineLaws.{later_new, later_poke, later_write, later_grant, later_frame, later_send, later_other}
 use Rattle.recording.proofs.later.Statement.{statement}
 use Rattle.recording.proofs.later.Tie as tie
 
@@ -24,15 +24,15 @@ later-spec =
     (λ c κs. search rules)
     (λ c. search rules)
     (λ c κs. search rules)
-    (λ c. search later-new)
+    (λ c. search later_new)
     (λ c. search rules)
-    (λ c. search later-poke)
+    (λ c. search later_poke)
     (λ c. search rules)
     (λ c. search later_write)
     (λ c. search rules)
-    (λ c. search later-grant)
+    (λ c. search later_grant)
     (λ c. search rules)
-    (λ c. search later-frame)
+    (λ c. search later_frame)
     (λ c. search rules)
-    (λ c. search later-send)
-    (λ c. search later-other))
+    (λ c. search later_send)
+    (λ c. search later_other))

@@ -1,5 +1,5 @@
 use borrow.Author.Rules.{rules}
-use Rattle.recording.proofs.DayLaws.{new-refused, new-allowed}
+use Rattle.recording.proofs.DayLaws.{new_refused, new_allowed}
 use Rattle.recording.proofs.new.Statement.{statement}
 use Rattle.recording.proofs.new.Tie as tie
 
@@ -9,5 +9,5 @@ new_spec =
     (tie.spec
     (λ c κs. search rules)
     (λ c κs. search rules)
-    (λ c. search new-refused)
-    (λ c. search new-allowed))
+    (λ c. search new_refused)
+    (λ c. search new_allowed))

@@ -1,5 +1,5 @@
 use borrow.Author.Rules.{rules}
-use Rattle.recording.proofs.LineLaws.{take-silent, take_behind, take-later, take-first}
+use Rattle.recording.proofs.LineLaws.{take_silent, take_behind, take_later, take_first}
 use Rattle.recording.proofs.take.Statement.{statement}
 use Rattle.recording.proofs.take.Tie as tie
 
@@ -9,13 +9,13 @@ take_spec =
     (tie.spec
     (λ c κs. search rules)
     (λ c κs. search rules)
-    (λ c. search take-silent)
+    (λ c. search take_silent)
     (λ c. search take_behind)
     (λ c κs. search rules)
     (λ c κs. search rules)
     (λ c κs. search rules)
     (λ c. search rules)
     (λ c. search rules)
-    (λ c. search take-later)
+    (λ c. search take_later)
     (λ c κs. search rules)
-    (λ c. search take-first))
+    (λ c. search take_first))

@@ -1,5 +1,5 @@
 use borrow.Author.Rules.{rules}
-use Rattle.register_write.proofs.Laws.{write-refused, write_done}
+use Rattle.register_write.proofs.Laws.{write_refused, write_done}
 use Rattle.register_write.proofs.write.Statement.{statement}
 use Rattle.register_write.proofs.write.Tie as tie
 
@@ -9,7 +9,7 @@ write_spec =
     (tie.spec
     (λ c κs. search rules)
     (λ c κs. search rules)
-    (λ c. search write-refused)
+    (λ c. search write_refused)
     (λ c κs. search rules)
     (λ c κs. search rules)
     (λ c. search write_done))

@@ -1,6 +1,6 @@
 -- `replaying::replay` meets its contract. Assumes nothing.
 use borrow.Author.Rules.{rules}
-use Rattle.replaying.proofs.Laws.{replay-unread, replay-short, replay-done}
+use Rattle.replaying.proofs.Laws.{replay_unread, replay_short, replay_done}
 use Rattle.replaying.proofs.replay.Statement.{statement}
 use Rattle.replaying.proofs.replay.Tie as tie
 
@@ -10,11 +10,11 @@ replay-spec =
     (tie.spec
     (λ c κs. search rules)
     (λ c κs. search rules)
-    (λ c. replay-unread _ _ _ _ _ _ c.before.before.before.look.ensures _ c.before.if1.true c.refused.ensures)
+    (λ c. replay_unread _ _ _ _ _ _ c.before.before.before.look.ensures _ c.before.if1.true c.refused.ensures)
     (λ c κs. search rules)
     (λ c.
     let k = c.before.before.before in
-    replay-short _ _ _ _ _ _ k.before.before.look.ensures _ k.if1.false c.before.if2.true c.refused2.ensures)
+    replay_short _ _ _ _ _ _ k.before.before.look.ensures _ k.if1.false c.before.if2.true c.refused2.ensures)
     (λ c κs. search rules)
     (λ c κs. search rules)
     (λ c κs. search rules)
@@ -27,5 +27,5 @@ replay-spec =
     let p = c.before.before.before.before.before.before in
     let n = p.before.before.before.before.before.before in
     let k = n.before.before.before.before.before in
-    replay-done _ _ _ _ _ _ k.before.before.before.before.look.ensures _ _ _ _ _ _ _ k.before.before.if1.false k.if2.false
+    replay_done _ _ _ _ _ _ k.before.before.before.before.look.ensures _ _ _ _ _ _ _ k.before.before.if1.false k.if2.false
     n.before.before.before.copy.ensures n.new.ensures p.before.before.before.before.part.ensures p.play.ensures))

@@ -1,6 +1,6 @@
 -- `replies::said` meets its contract. Assumes nothing.
 use borrow.Author.Rules.{rules}
-use Rattle.replies.proofs.Laws.{said-is}
+use Rattle.replies.proofs.Laws.{said_is}
 use Rattle.replies.proofs.said.Statement.{statement}
 use Rattle.replies.proofs.said.Tie as tie
 
@@ -11,4 +11,4 @@ said-spec =
     (λ c κs. search rules)
     (λ c κs. search rules)
     (λ c. search rules)
-    (λ c. search said-is))
+    (λ c. search said_is))

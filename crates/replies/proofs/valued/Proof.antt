@@ -1,6 +1,6 @@
 -- `replies::valued` meets its contract. Assumes nothing.
 use borrow.Author.Rules.{rules}
-use Rattle.replies.proofs.Laws.{valued-is}
+use Rattle.replies.proofs.Laws.{valued_is}
 use Rattle.replies.proofs.valued.Statement.{statement}
 use Rattle.replies.proofs.valued.Tie as tie
 
@@ -12,4 +12,4 @@ valued-spec =
     (λ c κs. search rules)
     (λ c κs. search rules)
     (λ c. search rules)
-    (λ c. search valued-is))
+    (λ c. search valued_is))

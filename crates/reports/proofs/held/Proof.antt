@@ -1,6 +1,6 @@
 -- `reports::held` meets its contract. Assumes nothing.
 use borrow.Author.Rules.{rules}
-use Rattle.reports.proofs.Laws.{held-is}
+use Rattle.reports.proofs.Laws.{held_is}
 use Rattle.reports.proofs.held.Statement.{statement}
 use Rattle.reports.proofs.held.Tie as tie
 
@@ -12,4 +12,4 @@ held_spec =
     (λ c κs. search rules)
     (λ c κs. search rules)
     (λ c. search rules)
-    (λ c. search held-is))
+    (λ c. search held_is))

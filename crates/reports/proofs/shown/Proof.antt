@@ -1,6 +1,6 @@
 -- `reports::shown` meets its contract. Assumes nothing.
 use borrow.Author.Rules.{rules}
-use Rattle.reports.proofs.Laws.{shown-is}
+use Rattle.reports.proofs.Laws.{shown_is}
 use Rattle.reports.proofs.shown.Statement.{statement}
 use Rattle.reports.proofs.shown.Tie as tie
 
@@ -13,4 +13,4 @@ shown-spec =
     (λ c κs. search rules)
     (λ c κs. search rules)
     (λ c. search rules)
-    (λ c. search shown-is))
+    (λ c. search shown_is))

@@ -1,7 +1,7 @@
 -- The proof of the recursion `apart_from_rest`. The measure is the number of descriptors left. Assumes nothing.
 use native.Mathlib.Omega.{arith}
 use borrow.Author.Rules.{rules}
-use Rattle.ring.proofs.Laws.{rest-none, rest-stop, rest-on}
+use Rattle.ring.proofs.Laws.{rest_none, rest_stop, rest_on}
 use Prim.Native.Nat.{ℕ, ◌<◌}
 use borrow.Fn.Kinds.{In}
 use borrow.Fn.PlainCycle.{Measures, is, falls, and}
@@ -43,10 +43,10 @@ pub +apart-from-rest-spec : {M : Type 1} → statement M
 )
     (apart-from-rest-at t)
     apart-from-rest.Post
-    (λ c. search rest-none)
+    (λ c. search rest_none)
     (λ c κs. tt)
-    (λ c. search rest-stop)
+    (λ c. search rest_stop)
     (λ c. search rules)
     (λ c κs. tt)
     (λ c κs. (omega arith, search rules))
-    (λ c. search rest-on)
+    (λ c. search rest_on)

@@ -1,7 +1,7 @@
 -- The proof of the recursion `ring_from`. The measure is the number of descriptors left. Assumes nothing.
 use native.Mathlib.Omega.{arith}
 use borrow.Author.Rules.{rules}
-use Rattle.ring.proofs.Laws.{ring-none, ring-unsound, ring-shared, ring-on}
+use Rattle.ring.proofs.Laws.{ring_none, ring_unsound, ring_shared, ring_on}
 use Prim.Native.Nat.{ℕ, ◌<◌}
 use borrow.Fn.Kinds.{In}
 use borrow.Fn.PlainCycle.{Measures, is, falls, and}
@@ -37,13 +37,13 @@ pub +ring-from-spec : {M : Type 1} → statement M
 )
     (ring-from-at t)
     ring-from.Post
-    (λ c. ring-none _ _ _ _ _ _ c.if1.true)
+    (λ c. ring_none _ _ _ _ _ _ c.if1.true)
     (λ c κs. tt)
-    (λ c. search ring-unsound)
+    (λ c. search ring_unsound)
     (λ c κs. tt)
     (λ c. search rules)
     (λ c κs. tt)
-    (λ c. search ring-shared)
+    (λ c. search ring_shared)
     (λ c. search rules)
     (λ c κs. (omega arith, search rules))
-    (λ c. search ring-on)
+    (λ c. search ring_on)

@@ -1,4 +1,4 @@
-use Rattle.ring.proofs.Laws.{other_length, number-0, number-over-32, first-misaligned, by-ring}
+use Rattle.ring.proofs.Laws.{other_length, number_0, number_over_32, first_misaligned, by_ring}
 use Rattle.ring.proofs.sound_ring.Statement.{statement}
 use Rattle.ring.proofs.sound_ring.Tie as tie
 
@@ -8,9 +8,9 @@ sound-ring-spec =
     (tie.spec
     (λ c κs. tt)
     (λ c. search other_length)
-    (λ c. search number-0)
-    (λ c. search number-over-32)
+    (λ c. search number_0)
+    (λ c. search number_over_32)
     (λ c κs. tt)
-    (λ c. search first-misaligned)
+    (λ c. search first_misaligned)
     (λ c κs. tt)
-    (λ c. search by-ring))
+    (λ c. search by_ring))

@@ -1,4 +1,4 @@
-use Rattle.ring_descriptors.proofs.Laws.{descriptors-share, descriptor-in-buffer, buffer-over-descriptor, by-buffers}
+use Rattle.ring_descriptors.proofs.Laws.{descriptors_share, descriptor_in_buffer, buffer_over_descriptor, by_buffers}
 use Rattle.ring_descriptors.proofs.regions_apart.Statement.{statement}
 use Rattle.ring_descriptors.proofs.regions_apart.Tie as tie
 
@@ -7,14 +7,14 @@ regions-apart-spec =
     tie.close
     (tie.spec
     (λ c κs. tt)
-    (λ c. search descriptors-share)
+    (λ c. search descriptors_share)
     (λ c κs. tt)
     (λ c κs. tt)
     (λ c κs. tt)
-    (λ c. search descriptor-in-buffer)
+    (λ c. search descriptor_in_buffer)
     (λ c κs. tt)
     (λ c κs. tt)
     (λ c κs. tt)
-    (λ c. search buffer-over-descriptor)
+    (λ c. search buffer_over_descriptor)
     (λ c κs. tt)
-    (λ c. search by-buffers))
+    (λ c. search by_buffers))

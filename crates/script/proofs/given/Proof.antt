@@ -1,6 +1,6 @@
 -- `script::given` meets its contract. Assumes nothing.
 use borrow.Author.Rules.{rules}
-use Rattle.script.proofs.CallLaws.{given-first, given-second, given_both}
+use Rattle.script.proofs.CallLaws.{given_first, given_second, given_both}
 use Rattle.script.proofs.given.Statement.{statement}
 use Rattle.script.proofs.given.Tie as tie
 
@@ -11,9 +11,9 @@ given-spec =
     (λ c. search rules)
     (λ c. search rules)
     (λ c κs. search rules)
-    (λ c. search given-first)
+    (λ c. search given_first)
     (λ c. search rules)
     (λ c. search rules)
     (λ c κs. search rules)
-    (λ c. search given-second)
+    (λ c. search given_second)
     (λ c. search given_both))

@@ -1,6 +1,6 @@
 -- `script::with_more` meets its contract. Assumes nothing.
 use borrow.Author.Rules.{rules}
-use Rattle.script.proofs.CallLaws.{more-burst, more-none, more-two}
+use Rattle.script.proofs.CallLaws.{more_burst, more_none, more_two}
 use Rattle.script.proofs.with_more.Statement.{statement}
 use Rattle.script.proofs.with_more.Tie as tie
 
@@ -13,9 +13,9 @@ with-more-spec =
     (λ c κs. search rules)
     (λ c κs. search rules)
     (λ c κs. search rules)
-    (λ c. search more-burst)
+    (λ c. search more_burst)
     (λ c κs. search rules)
     (λ c κs. search rules)
-    (λ c. search more-none)
+    (λ c. search more_none)
     (λ c κs. search rules)
-    (λ c. search more-two))
+    (λ c. search more_two))

@@ -1,13 +1,13 @@
 -- `script::with_two` meets its contract. Assumes nothing.
 use borrow.Author.Rules.{rules}
-use Rattle.script.specs.Calls.{withTwo}
+use Rattle.script.specs.Calls.{with_two}
 use Rattle.words.proofs.Laws.{named, not_named}
-use Rattle.script.proofs.CallLaws.{given-two}
+use Rattle.script.proofs.CallLaws.{given_two}
 use Rattle.script.proofs.with_two.Statement.{statement}
 use Rattle.script.proofs.with_two.Tie as tie
 
 pub with-two-spec : {M : Type 1} → statement M
-unfolding withTwo
+unfolding with_two
 with-two-spec =
     tie.close
     (tie.spec
@@ -16,36 +16,36 @@ with-two-spec =
     (λ c κs. search rules)
     (λ c κs. search rules)
     (λ c κs. search rules)
-    (λ c. search (named, not_named, given-two) depth 9)
+    (λ c. search (named, not_named, given_two) depth 9)
     (λ c. search rules)
     (λ c κs. search rules)
     (λ c κs. search rules)
     (λ c κs. search rules)
     (λ c κs. search rules)
-    (λ c. search (named, not_named, given-two) depth 9)
+    (λ c. search (named, not_named, given_two) depth 9)
     (λ c. search rules)
     (λ c κs. search rules)
     (λ c κs. search rules)
     (λ c κs. search rules)
     (λ c κs. search rules)
-    (λ c. search (named, not_named, given-two) depth 9)
+    (λ c. search (named, not_named, given_two) depth 9)
     (λ c. search rules)
     (λ c κs. search rules)
     (λ c κs. search rules)
     (λ c κs. search rules)
     (λ c κs. search rules)
-    (λ c. search (named, not_named, given-two) depth 9)
+    (λ c. search (named, not_named, given_two) depth 9)
     (λ c. search rules)
     (λ c κs. search rules)
     (λ c κs. search rules)
     (λ c κs. search rules)
     (λ c κs. search rules)
-    (λ c. search (named, not_named, given-two) depth 9)
+    (λ c. search (named, not_named, given_two) depth 9)
     (λ c. search rules)
     (λ c κs. search rules)
     (λ c κs. search rules)
     (λ c κs. search rules)
     (λ c κs. search rules)
-    (λ c. search (named, not_named, given-two) depth 9)
+    (λ c. search (named, not_named, given_two) depth 9)
     (λ c κs. search rules)
     (λ c. search (named, not_named) depth 9))

@@ -1,5 +1,5 @@
 use borrow.Author.Rules.{rules}
-use Rattle.sending.proofs.Laws.{send-refused, send-done}
+use Rattle.sending.proofs.Laws.{send_refused, send_done}
 use Rattle.sending.proofs.send.Statement.{statement}
 use Rattle.sending.proofs.send.Tie as tie
 
@@ -10,11 +10,11 @@ send-spec =
     (λ c κs. search rules)
     (λ c κs. search rules)
     (λ c. search rules)
-    (λ c. search send-refused)
+    (λ c. search send_refused)
     (λ c κs. search rules)
     (λ c κs. search rules)
     (λ c κs. search rules)
     (λ c κs. search rules)
     (λ c. search rules)
     (λ c. search rules)
-    (λ c. search send-done))
+    (λ c. search send_done))

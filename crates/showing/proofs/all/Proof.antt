@@ -5,7 +5,7 @@ use native.Mathlib.Omega.{arith}
 use borrow.Author.Rules.{rules}
 use lib.ListN.{length}
 use Rattle.showing.specs.Showing.{left}
-use Rattle.showing.proofs.Laws.{Showing, showing-begins, showing-room, showing-on, showing-ends}
+use Rattle.showing.proofs.Laws.{Showing, showing_begins, showing_room, showing_on, showing_ends}
 use Rattle.showing.proofs.all.Statement.{statement}
 use Rattle.showing.proofs.all.Tie as tie
 
@@ -21,7 +21,7 @@ size-at-requires : tie.Need-size-at-requires invariant-loop decreases-loop
 size-at-requires c κs = search rules
 
 loop-holds : tie.Need-loop-init invariant-loop decreases-loop
-loop-holds c = (search showing-begins, (omega arith, (refl, (refl, refl))))
+loop-holds c = (search showing_begins, (omega arith, (refl, (refl, refl))))
 
 event-requires : tie.Need-event-requires invariant-loop decreases-loop
 event-requires c κs = search rules
@@ -29,7 +29,7 @@ event-requires c κs = search rules
 add-place : tie.Need-overflow-add-place invariant-loop decreases-loop
 add-place c =
     let l = c.before.before.before.before.before.before.before.before.before.before.before.loop in
-    let r = showing-room _ _ _ _ _ l.invariant.0 in
+    let r = showing_room _ _ _ _ _ l.invariant.0 in
     let few = l.invariant.1.0 in
     omega arith
 
@@ -38,7 +38,7 @@ size-at-requires-2 c κs = search rules
 
 loop-less : tie.Need-loop-smaller invariant-loop decreases-loop
 loop-less c =
-    let r = showing-room _ _ _ _ _ c.before.before.before.before.before.before.before.before.before.before.before.before.loop.invariant.0 in
+    let r = showing_room _ _ _ _ _ c.before.before.before.before.before.before.before.before.before.before.before.before.loop.invariant.0 in
     omega arith
 
 loop-again : tie.Need-loop-preserved invariant-loop decreases-loop
@@ -46,7 +46,7 @@ loop-again c =
     let some = c.before.before.before.before.before.before.before.before.before.before.before in
     let l = some.before.loop in
     let o = c.before.before.before.before.before.before.before.event in
-    let on = showing-on _ _ _ _ _ _ _ l.invariant.0 some.loop-test.true o.ensures c.size-at2.ensures in
+    let on = showing_on _ _ _ _ _ _ _ l.invariant.0 some.loop-test.true o.ensures c.size-at2.ensures in
     (on, (l.invariant.1.0, (o.auto.1.1.1.0 ∙ l.invariant.1.1.0, (o.auto.1.1.1.1.0 ∙ l.invariant.1.1.1.0, o.auto.1.1.1.1.1.0 ∙ l.invariant.1.1.1.1))))
 
 same_length : tie.Need-same-length invariant-loop decreases-loop
@@ -59,7 +59,7 @@ same-length-3 : tie.Need-same-length-3 invariant-loop decreases-loop
 same-length-3 c = search rules
 
 returns : tie.Need-returns invariant-loop decreases-loop
-returns c = showing-ends _ _ _ _ _ c.before.loop.invariant.0 c.loop-test.false
+returns c = showing_ends _ _ _ _ _ c.before.loop.invariant.0 c.loop-test.false
 
 pub all-spec : {M : Type 1} → statement M
 all-spec =

@@ -1,5 +1,5 @@
 use borrow.Author.Rules.{rules}
-use Rattle.showing.proofs.Laws.{event-left}
+use Rattle.showing.proofs.Laws.{event_left}
 use Rattle.showing.proofs.event.Statement.{statement}
 use Rattle.showing.proofs.event.Tie as tie
 
@@ -15,4 +15,4 @@ event-spec =
     (λ c. search rules)
     (λ c. search rules)
     (λ c. search rules)
-    (λ c. search event-left))
+    (λ c. search event_left))

@@ -1,5 +1,5 @@
 use borrow.Author.Rules.{rules}
-use Rattle.speed.proofs.Laws.{receive-round-is}
+use Rattle.speed.proofs.Laws.{receive_round_is}
 use Rattle.speed.proofs.receive_round.Statement.{statement}
 use Rattle.speed.proofs.receive_round.Tie as tie
 
@@ -10,4 +10,4 @@ receive-round-spec =
     (λ c κs. search rules)
     (λ c κs. search rules)
     (λ c. search rules)
-    (λ c. search receive-round-is))
+    (λ c. search receive_round_is))

@@ -1,5 +1,5 @@
 use borrow.Author.Rules.{rules}
-use Rattle.speed.proofs.Laws.{send-round-is}
+use Rattle.speed.proofs.Laws.{send_round_is}
 use Rattle.speed.proofs.send_round.Statement.{statement}
 use Rattle.speed.proofs.send_round.Tie as tie
 
@@ -11,4 +11,4 @@ send-round-spec =
     (λ c κs. search rules)
     (λ c. search rules)
     (λ c. search rules)
-    (λ c. search send-round-is))
+    (λ c. search send_round_is))

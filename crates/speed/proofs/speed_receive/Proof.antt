@@ -5,14 +5,14 @@ use Prim.Native.Nat.{◌+◌, ◌≤◌}
 use native.Mathlib.Omega.{arith}
 use borrow.Author.Rules.{rules}
 use lib.ListN.{length}
-use Rattle.speed.specs.Rounds.{receiveRounds}
-use Rattle.timing.proofs.Laws.{rounds-turn, rounds-end}
+use Rattle.speed.specs.Rounds.{receive_rounds}
+use Rattle.timing.proofs.Laws.{rounds_turn, rounds_end}
 use Rattle.speed.proofs.speed_receive.Statement.{statement}
 use Rattle.speed.proofs.speed_receive.Tie as tie
 
 abbrev invariant-loop : tie.invariant-loop
 invariant-loop memory₀ frame rounds device₀ taken₀ left₀ memory device taken left =
-    (taken + left ≤ rounds) × ((length memory ≡ length memory₀) × (receiveRounds left taken device memory frame ≡ receiveRounds rounds 0 device₀ memory₀ frame))
+    (taken + left ≤ rounds) × ((length memory ≡ length memory₀) × (receive_rounds left taken device memory frame ≡ receive_rounds rounds 0 device₀ memory₀ frame))
 
 abbrev decreases-loop : tie.decreases-loop
 decreases-loop memory₀ frame rounds device₀ taken₀ left₀ memory device taken left = left
@@ -48,7 +48,7 @@ loop-again c =
       omega arith,
       (
         r.auto.1.0 ∙ l.invariant.1.0,
-        rounds-turn _ l.left l.taken c.passed.result _ _ _ _ (omega arith) r.ensures c.passed.ensures.0 ∙ l.invariant.1.1,
+        rounds_turn _ l.left l.taken c.passed.result _ _ _ _ (omega arith) r.ensures c.passed.ensures.0 ∙ l.invariant.1.1,
       ),
     )
 
@@ -58,7 +58,7 @@ same_length c = search rules
 returns : tie.Need-returns invariant-loop decreases-loop
 returns c =
     let l = c.before.loop in
-    sym (rounds-end _ l.left _ _ _ (omega arith)) ∙ rw c.before.before.bench.ensures at l.invariant.1.1
+    sym (rounds_end _ l.left _ _ _ (omega arith)) ∙ rw c.before.before.bench.ensures at l.invariant.1.1
 
 pub speed-receive-spec : {M : Type 1} → statement M
 speed-receive-spec =

@@ -4,14 +4,14 @@ use Prim.Native.Nat.{◌+◌, ◌≤◌}
 use native.Mathlib.Omega.{arith}
 use borrow.Author.Rules.{rules}
 use lib.ListN.{length}
-use Rattle.speed.specs.Rounds.{sendRounds}
-use Rattle.speed.proofs.Laws.{send-turn, send-end}
+use Rattle.speed.specs.Rounds.{send_rounds}
+use Rattle.speed.proofs.Laws.{send_turn, send_end}
 use Rattle.speed.proofs.speed_send.Statement.{statement}
 use Rattle.speed.proofs.speed_send.Tie as tie
 
 abbrev invariant-loop : tie.invariant-loop
 invariant-loop memory₀ output₀ rounds device₀ gone₀ left₀ memory output device gone left =
-    (gone + left ≤ rounds) × ((length memory ≡ length memory₀) × ((length output ≡ length output₀) × (sendRounds left gone device memory output ≡ sendRounds rounds 0 device₀ memory₀ output₀)))
+    (gone + left ≤ rounds) × ((length memory ≡ length memory₀) × ((length output ≡ length output₀) × (send_rounds left gone device memory output ≡ send_rounds rounds 0 device₀ memory₀ output₀)))
 
 abbrev decreases-loop : tie.decreases-loop
 decreases-loop memory₀ output₀ rounds device₀ gone₀ left₀ memory output device gone left = left
@@ -44,7 +44,7 @@ loop-again : tie.Need-loop-preserved invariant-loop decreases-loop
 loop-again c =
     let l = c.before.before.before.before.before.before.before.before.before.before.loop in
     let r = c.before.before.before.before.before.before.send-round in
-    let t = send-turn l.left l.gone c.passed.result _ _ _ _ _ _ (omega arith) r.ensures c.passed.ensures.0 in
+    let t = send_turn l.left l.gone c.passed.result _ _ _ _ _ _ (omega arith) r.ensures c.passed.ensures.0 in
     (omega arith, (r.auto.1.0 ∙ l.invariant.1.0, (r.auto.1.1.0 ∙ l.invariant.1.1.0, t ∙ l.invariant.1.1.1)))
 
 same_length : tie.Need-same-length invariant-loop decreases-loop
@@ -56,7 +56,7 @@ same-length-2 c = search rules
 returns : tie.Need-returns invariant-loop decreases-loop
 returns c =
     let l = c.before.loop in
-    sym (send-end l.left _ _ _ _ (omega arith)) ∙ rw c.before.before.bench.ensures at l.invariant.1.1.1
+    sym (send_end l.left _ _ _ _ (omega arith)) ∙ rw c.before.before.bench.ensures at l.invariant.1.1.1
 
 pub speed-send-spec : {M : Type 1} → statement M
 speed-send-spec =

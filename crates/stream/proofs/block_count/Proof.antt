@@ -1,5 +1,5 @@
 use borrow.Author.Rules.{rules}
-use Rattle.stream.proofs.Laws.{count_none, count-some}
+use Rattle.stream.proofs.Laws.{count_none, count_some}
 use Rattle.stream.proofs.block_count.Statement.{statement}
 use Rattle.stream.proofs.block_count.Tie as tie
 
@@ -10,4 +10,4 @@ block-count-spec =
     (λ c. search count_none)
     (λ c. search rules)
     (λ c. search rules)
-    (λ c. search count-some))
+    (λ c. search count_some))

@@ -1,7 +1,7 @@
 use borrow.Author.Rules.{rules}
 use native.Mathlib.Omega.{arith}
 use Prim.Native.Nat.{◌-◌}
-use Rattle.stream.proofs.Laws.{Copying, copying-fits, copying-begins, copying-on, copying-ends, copying-length}
+use Rattle.stream.proofs.Laws.{Copying, copying_fits, copying_begins, copying_on, copying_ends, copying_length}
 use Rattle.stream.proofs.copy.Statement.{statement}
 use Rattle.stream.proofs.copy.Tie as tie
 
@@ -15,7 +15,7 @@ block-count-requires : tie.Need-block-count-requires invariant-loop decreases-lo
 block-count-requires c κs = search rules
 
 loop-holds : tie.Need-loop-init invariant-loop decreases-loop
-loop-holds c = search copying-begins
+loop-holds c = search copying_begins
 
 copy-block-requires : tie.Need-copy-block-requires invariant-loop decreases-loop
 copy-block-requires c κs = search rules
@@ -24,7 +24,7 @@ add-bytes : tie.Need-overflow-add-bytes invariant-loop decreases-loop
 add-bytes c =
     let turn = c.before.before in
     let entered = turn.before.before.before in
-    let fits = copying-fits _ _ _ _ _ _ _ entered.loop.invariant turn.before.before.loop-test.true entered.before.block-count.ensures turn.copy-block.ensures.0 in
+    let fits = copying_fits _ _ _ _ _ _ _ entered.loop.invariant turn.before.before.loop-test.true entered.before.block-count.ensures turn.copy-block.ensures.0 in
     omega arith
 
 add-k : tie.Need-overflow-add-k invariant-loop decreases-loop
@@ -34,13 +34,13 @@ loop-less : tie.Need-loop-smaller invariant-loop decreases-loop
 loop-less c = omega arith
 
 loop-again : tie.Need-loop-preserved invariant-loop decreases-loop
-loop-again c = search copying-on
+loop-again c = search copying_on
 
 same_length : tie.Need-same-length invariant-loop decreases-loop
-same_length c = search copying-length
+same_length c = search copying_length
 
 returns : tie.Need-returns invariant-loop decreases-loop
-returns c = search copying-ends
+returns c = search copying_ends
 
 pub copy_spec : {M : Type 1} → statement M
 copy_spec =

@@ -1,5 +1,5 @@
 use borrow.Author.Rules.{rules}
-use Rattle.stream.proofs.Laws.{block-copied}
+use Rattle.stream.proofs.Laws.{block_copied}
 use Rattle.stream.proofs.copy_block.Statement.{statement}
 use Rattle.stream.proofs.copy_block.Tie as tie
 
@@ -19,4 +19,4 @@ copy-block-spec =
     let left = part.before in
     let behind = left.before in
     let used = behind.before.before in
-    block-copied _ _ _ _ _ _ _ _ _ used.used-data.ensures behind.behind-header.ensures left.header-left.ensures part.part.ensures stored.store.ensures))
+    block_copied _ _ _ _ _ _ _ _ _ used.used-data.ensures behind.behind-header.ensures left.header-left.ensures part.part.ensures stored.store.ensures))

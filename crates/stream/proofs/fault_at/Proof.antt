@@ -1,5 +1,5 @@
 use borrow.Author.Rules.{rules}
-use Rattle.stream.proofs.Laws.{count-least, fault-here}
+use Rattle.stream.proofs.Laws.{count_least, fault_here}
 use Rattle.stream.proofs.fault_at.Statement.{statement}
 use Rattle.stream.proofs.fault_at.Tie as tie
 
@@ -10,6 +10,6 @@ fault-at-spec =
     (λ c κs. search rules)
     (λ c.
     let e = c.before.before.requires in
-    rw e (count-least _))
+    rw e (count_least _))
     (λ c κs. search rules)
-    (λ c. search fault-here))
+    (λ c. search fault_here))

@@ -1,5 +1,5 @@
 use borrow.Author.Rules.{rules}
-use Rattle.stream.proofs.Laws.{used-here}
+use Rattle.stream.proofs.Laws.{used_here}
 use Rattle.stream.proofs.used_data.Statement.{statement}
 use Rattle.stream.proofs.used_data.Tie as tie
 
@@ -11,4 +11,4 @@ used-data-spec =
     (λ c κs. search rules)
     (λ c κs. search rules)
     (λ c κs. search rules)
-    (λ c. search used-here))
+    (λ c. search used_here))

@@ -1,4 +1,4 @@
-use Rattle.ticking.proofs.Laws.{write-clears, write-of-another-value, write-elsewhere, write-refused}
+use Rattle.ticking.proofs.Laws.{write_clears, write_of_another_value, write_elsewhere, write_refused}
 use Rattle.ticking.proofs.after_write.Statement.{statement}
 use Rattle.ticking.proofs.after_write.Tie as tie
 
@@ -6,7 +6,7 @@ pub after-write-spec : {M : Type 1} → statement M
 after-write-spec =
     tie.close
     (tie.spec
-    (λ c. search write-clears)
-    (λ c. search write-of-another-value)
-    (λ c. search write-elsewhere)
-    (λ c. search write-refused))
+    (λ c. search write_clears)
+    (λ c. search write_of_another_value)
+    (λ c. search write_elsewhere)
+    (λ c. search write_refused))

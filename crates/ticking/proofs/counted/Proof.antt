@@ -1,5 +1,5 @@
 use borrow.Author.Rules.{rules}
-use Rattle.ticking.proofs.Laws.{count-goes-up, count-fires}
+use Rattle.ticking.proofs.Laws.{count_goes_up, count_fires}
 use Rattle.ticking.proofs.counted.Statement.{statement}
 use Rattle.ticking.proofs.counted.Tie as tie
 
@@ -8,5 +8,5 @@ counted_spec =
     tie.close
     (tie.spec
     (λ c. search rules)
-    (λ c. search count-goes-up)
-    (λ c. search count-fires))
+    (λ c. search count_goes_up)
+    (λ c. search count_fires))

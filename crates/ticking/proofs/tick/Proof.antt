@@ -1,5 +1,5 @@
 use borrow.Author.Rules.{rules}
-use Rattle.ticking.proofs.Laws.{tick-refused, tick-off, tick-counts, tick-clears}
+use Rattle.ticking.proofs.Laws.{tick_refused, tick_off, tick_counts, tick_clears}
 use Rattle.ticking.proofs.tick.Statement.{statement}
 use Rattle.ticking.proofs.tick.Tie as tie
 
@@ -8,11 +8,11 @@ tick-spec =
     tie.close
     (tie.spec
     (λ c κs. search rules)
-    (λ c. search tick-refused)
+    (λ c. search tick_refused)
     (λ c κs. search rules)
-    (λ c. search tick-off)
+    (λ c. search tick_off)
     (λ c κs. search rules)
     (λ c κs. search rules)
-    (λ c. search tick-counts)
+    (λ c. search tick_counts)
     (λ c κs. search rules)
-    (λ c. search tick-clears))
+    (λ c. search tick_clears))

@@ -1,5 +1,5 @@
 use borrow.Author.Rules.{rules}
-use Rattle.timing.proofs.Laws.{bench-is}
+use Rattle.timing.proofs.Laws.{bench_is}
 use Rattle.timing.proofs.bench.Statement.{statement}
 use Rattle.timing.proofs.bench.Tie as tie
 
@@ -10,4 +10,4 @@ bench-spec =
     (λ c κs. search rules)
     (λ c κs. search rules)
     (λ c κs. search rules)
-    (λ c. search bench-is))
+    (λ c. search bench_is))

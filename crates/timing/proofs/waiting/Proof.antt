@@ -1,5 +1,5 @@
 use borrow.Author.Rules.{rules}
-use Rattle.timing.proofs.Laws.{waiting-is}
+use Rattle.timing.proofs.Laws.{waiting_is}
 use Rattle.timing.proofs.waiting.Statement.{statement}
 use Rattle.timing.proofs.waiting.Tie as tie
 
@@ -12,4 +12,4 @@ waiting-spec =
     (λ c κs. search rules)
     (λ c κs. search rules)
     (λ c κs. search rules)
-    (λ c. search waiting-is))
+    (λ c. search waiting_is))

@@ -1,6 +1,6 @@
 use borrow.Author.Rules.{rules}
 use native.Mathlib.Omega.{arith}
-use Rattle.trace.proofs.Bytes.{last_fits, used-fits, end_is}
+use Rattle.trace.proofs.Bytes.{last_fits, used_fits, end_is}
 use Rattle.trace.proofs.end_of.Statement.{statement}
 use Rattle.trace.proofs.end_of.Tie as tie
 
@@ -17,6 +17,6 @@ end-of-spec =
     (λ c κs. search rules)
     (λ c.
     let fits = last_fits _ _ c.before.before.before.requires in
-    let used = used-fits _ _ c.before.before.before.requires _ _ c.before.block_at.ensures c.used.ensures in
+    let used = used_fits _ _ c.before.before.before.requires _ _ c.before.block_at.ensures c.used.ensures in
     omega arith)
     (λ c. end_is _ _ c.before.before.before.requires _ _ c.before.block_at.ensures c.used.ensures))

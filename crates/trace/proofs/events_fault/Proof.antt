@@ -1,11 +1,11 @@
 use borrow.Author.Rules.{rules}
 use borrow.Author.Tests.{eq-eqb, ne_eqb}
-use Rattle.trace.specs.Passes.{eventsFault}
+use Rattle.trace.specs.Passes.{events_fault}
 use Rattle.trace.proofs.events_fault.Statement.{statement}
 use Rattle.trace.proofs.events_fault.Tie as tie
 
 pub events-fault-spec : {M : Type 1} → statement M
-unfolding eventsFault
+unfolding events_fault
 events-fault-spec =
     tie.close
     (tie.spec

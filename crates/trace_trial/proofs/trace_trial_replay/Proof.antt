@@ -1,5 +1,5 @@
 use borrow.Author.Rules.{rules}
-use Rattle.trace_trial.proofs.Laws.{replay-left}
+use Rattle.trace_trial.proofs.Laws.{replay_left}
 use Rattle.trace_trial.proofs.trace_trial_replay.Statement.{statement}
 use Rattle.trace_trial.proofs.trace_trial_replay.Tie as tie
 
@@ -16,4 +16,4 @@ trace-trial-replay-spec =
     (λ c. search rules)
     (λ c. search rules)
     (λ c. search rules)
-    (λ c. replay-left _ _ _ _ _ _ _ _ _ _ _ _ _ c.before.before.before.before.before.before.before.before.before.before.before.before.before.before.replay.ensures c.before.before.before.before.numbers_of.ensures c.before.before.put.ensures))
+    (λ c. replay_left _ _ _ _ _ _ _ _ _ _ _ _ _ c.before.before.before.before.before.before.before.before.before.before.before.before.before.before.replay.ensures c.before.before.before.before.numbers_of.ensures c.before.before.put.ensures))

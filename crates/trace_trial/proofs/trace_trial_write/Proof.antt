@@ -1,5 +1,5 @@
 use borrow.Author.Rules.{rules}
-use Rattle.trace_trial.proofs.Laws.{write-left}
+use Rattle.trace_trial.proofs.Laws.{write_left}
 use Rattle.trace_trial.proofs.trace_trial_write.Statement.{statement}
 use Rattle.trace_trial.proofs.trace_trial_write.Tie as tie
 
@@ -13,4 +13,4 @@ trace-trial-write-spec =
     (λ c κs. search rules)
     (λ c. search rules)
     (λ c. search rules)
-    (λ c. write-left _ _ _ _ _ _ _ _ c.before.before.before.before.before.before.before.before.write.ensures c.before.before.put.ensures))
+    (λ c. write_left _ _ _ _ _ _ _ _ c.before.before.before.before.before.before.before.before.write.ensures c.before.before.put.ensures))

@@ -1,5 +1,5 @@
 use borrow.Author.Rules.{rules}
-use Rattle.vic.proofs.Laws.{looks, looks-none}
+use Rattle.vic.proofs.Laws.{looks, looks_none}
 use Rattle.vic.proofs.looking.Statement.{statement}
 use Rattle.vic.proofs.looking.Tie as tie
 
@@ -12,4 +12,4 @@ looking-spec =
     (λ c κs. search rules)
     (λ c κs. search rules)
     (λ c. search looks)
-    (λ c. search looks-none))
+    (λ c. search looks_none))

@@ -1,5 +1,5 @@
 use borrow.Author.Rules.{rules}
-use Rattle.vic.proofs.Laws.{read-vector-is, read_is}
+use Rattle.vic.proofs.Laws.{read_vector_is, read_is}
 use Rattle.vic.proofs.read.Statement.{statement}
 use Rattle.vic.proofs.read.Tie as tie
 
@@ -8,7 +8,7 @@ read_spec =
     tie.close
     (tie.spec
     (λ c κs. search rules)
-    (λ c. search read-vector-is)
+    (λ c. search read_vector_is)
     (λ c κs. search rules)
     (λ c κs. search rules)
     (λ c κs. search rules)

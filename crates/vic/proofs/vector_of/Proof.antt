@@ -1,5 +1,5 @@
 use borrow.Author.Rules.{rules}
-use Rattle.vic.proofs.Laws.{vector-of-first, vector-of-second}
+use Rattle.vic.proofs.Laws.{vector_of_first, vector_of_second}
 use Rattle.vic.proofs.vector_of.Statement.{statement}
 use Rattle.vic.proofs.vector_of.Tie as tie
 
@@ -8,6 +8,6 @@ vector-of-spec =
     tie.close
     (tie.spec
     (λ c κs. search rules)
-    (λ c. search vector-of-first)
+    (λ c. search vector_of_first)
     (λ c κs. search rules)
-    (λ c. search vector-of-second))
+    (λ c. search vector_of_second))

@@ -1,5 +1,5 @@
 use borrow.Author.Rules.{rules}
-use Rattle.vic.proofs.Laws.{write-vector-is, write-is}
+use Rattle.vic.proofs.Laws.{write_vector_is, write_is}
 use Rattle.vic.proofs.write.Statement.{statement}
 use Rattle.vic.proofs.write.Tie as tie
 
@@ -8,10 +8,10 @@ write_spec =
     tie.close
     (tie.spec
     (λ c κs. search rules)
-    (λ c. search write-vector-is)
+    (λ c. search write_vector_is)
     (λ c κs. search rules)
     (λ c κs. search rules)
     (λ c κs. search rules)
     (λ c κs. search rules)
     (λ c κs. search rules)
-    (λ c. search write-is))
+    (λ c. search write_is))

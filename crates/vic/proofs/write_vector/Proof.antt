@@ -1,5 +1,5 @@
 use borrow.Author.Rules.{rules}
-use Rattle.vic.proofs.Laws.{ends, ends-none}
+use Rattle.vic.proofs.Laws.{ends, ends_none}
 use Rattle.vic.proofs.write_vector.Statement.{statement}
 use Rattle.vic.proofs.write_vector.Tie as tie
 
@@ -13,4 +13,4 @@ write-vector-spec =
     (λ c κs. search rules)
     (λ c κs. search rules)
     (λ c. search ends)
-    (λ c. search ends-none))
+    (λ c. search ends_none))

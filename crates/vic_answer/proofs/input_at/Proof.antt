@@ -1,5 +1,5 @@
 use borrow.Author.Rules.{rules}
-use Rattle.vic_answer.proofs.Laws.{input-of-slot, input-without}
+use Rattle.vic_answer.proofs.Laws.{input_of_slot, input_without}
 use Rattle.vic_answer.proofs.input_at.Statement.{statement}
 use Rattle.vic_answer.proofs.input_at.Tie as tie
 
@@ -8,5 +8,5 @@ input-at-spec =
     tie.close
     (tie.spec
     (λ c κs. search rules)
-    (λ c. search input-of-slot)
-    (λ c. search input-without))
+    (λ c. search input_of_slot)
+    (λ c. search input_without))

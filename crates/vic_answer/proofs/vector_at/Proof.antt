@@ -1,5 +1,5 @@
 use borrow.Author.Rules.{rules}
-use Rattle.vic_answer.proofs.Laws.{vector-of-slot, vector-default}
+use Rattle.vic_answer.proofs.Laws.{vector_of_slot, vector_default}
 use Rattle.vic_answer.proofs.vector_at.Statement.{statement}
 use Rattle.vic_answer.proofs.vector_at.Tie as tie
 
@@ -8,5 +8,5 @@ vector-at-spec =
     tie.close
     (tie.spec
     (λ c κs. search rules)
-    (λ c. search vector-of-slot)
-    (λ c. search vector-default))
+    (λ c. search vector_of_slot)
+    (λ c. search vector_default))

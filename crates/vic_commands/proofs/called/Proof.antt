@@ -1,5 +1,5 @@
 use borrow.Author.Rules.{rules}
-use Rattle.vic_commands.proofs.Laws.{called-read, called-write, called-inputs, called-irq, called-fiq}
+use Rattle.vic_commands.proofs.Laws.{called_read, called_write, called_inputs, called_irq, called_fiq}
 use Rattle.vic_commands.proofs.called.Statement.{statement}
 use Rattle.vic_commands.proofs.called.Tie as tie
 
@@ -19,12 +19,12 @@ called-spec =
     (λ c. search rules)
     (λ c κs. search rules)
     (λ c. search rules)
-    (λ c. search called-read)
+    (λ c. search called_read)
     (λ c. search rules)
-    (λ c. search called-write)
+    (λ c. search called_write)
     (λ c. search rules)
-    (λ c. search called-inputs)
+    (λ c. search called_inputs)
     (λ c. search rules)
-    (λ c. search called-irq)
+    (λ c. search called_irq)
     (λ c. search rules)
-    (λ c. search called-fiq))
+    (λ c. search called_fiq))

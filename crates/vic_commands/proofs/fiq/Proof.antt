@@ -1,5 +1,5 @@
 use borrow.Author.Rules.{rules}
-use Rattle.vic_commands.proofs.Laws.{fiq-is}
+use Rattle.vic_commands.proofs.Laws.{fiq_is}
 use Rattle.vic_commands.proofs.fiq.Statement.{statement}
 use Rattle.vic_commands.proofs.fiq.Tie as tie
 
@@ -13,4 +13,4 @@ fiq-spec =
     (λ c. search rules)
     (λ c κs. search rules)
     (λ c. search rules)
-    (λ c. search fiq-is))
+    (λ c. search fiq_is))

@@ -1,5 +1,5 @@
 use borrow.Author.Rules.{rules}
-use Rattle.vic_commands.proofs.Laws.{inputs-is}
+use Rattle.vic_commands.proofs.Laws.{inputs_is}
 use Rattle.vic_commands.proofs.inputs.Statement.{statement}
 use Rattle.vic_commands.proofs.inputs.Tie as tie
 
@@ -11,4 +11,4 @@ inputs-spec =
     (λ c. search rules)
     (λ c κs. search rules)
     (λ c. search rules)
-    (λ c. search inputs-is))
+    (λ c. search inputs_is))

@@ -1,6 +1,6 @@
 use borrow.Author.Rules.{rules}
 use Rattle.vic_lines.proofs.irq.Reads as irq-reads'
-use Rattle.vic_commands.proofs.Laws.{irq-is}
+use Rattle.vic_commands.proofs.Laws.{irq_is}
 use Rattle.vic_commands.proofs.irq.Statement.{statement}
 use Rattle.vic_commands.proofs.irq.Tie as tie
 
@@ -12,4 +12,4 @@ irq-spec =
     (λ c κs. search rules)
     (λ c κs. search rules)
     (λ c. search rules)
-    (λ c. search irq-is))
+    (λ c. search irq_is))

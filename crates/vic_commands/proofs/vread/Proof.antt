@@ -1,6 +1,6 @@
 use borrow.Author.Rules.{rules}
 use Rattle.vic.proofs.read.Reads as read-reads'
-use Rattle.vic_commands.proofs.Laws.{vread-is}
+use Rattle.vic_commands.proofs.Laws.{vread_is}
 use Rattle.vic_commands.proofs.vread.Statement.{statement}
 use Rattle.vic_commands.proofs.vread.Tie as tie
 
@@ -13,4 +13,4 @@ vread-spec =
     (λ c. search rules)
     (λ c κs. search rules)
     (λ c. search rules)
-    (λ c. search vread-is))
+    (λ c. search vread_is))

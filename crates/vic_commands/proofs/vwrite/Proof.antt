@@ -1,5 +1,5 @@
 use borrow.Author.Rules.{rules}
-use Rattle.vic_commands.proofs.Laws.{vwrite-is}
+use Rattle.vic_commands.proofs.Laws.{vwrite_is}
 use Rattle.vic_commands.proofs.vwrite.Statement.{statement}
 use Rattle.vic_commands.proofs.vwrite.Tie as tie
 
@@ -12,4 +12,4 @@ vwrite-spec =
     (λ c. search rules)
     (λ c κs. search rules)
     (λ c. search rules)
-    (λ c. search vwrite-is))
+    (λ c. search vwrite_is))

@@ -1,5 +1,5 @@
 use borrow.Author.Rules.{rules}
-use Rattle.vic_lines.proofs.Laws.{irq-none, irq-first, irq-second}
+use Rattle.vic_lines.proofs.Laws.{irq_none, irq_first, irq_second}
 use Rattle.vic_lines.proofs.irq.Statement.{statement}
 use Rattle.vic_lines.proofs.irq.Tie as tie
 
@@ -18,8 +18,8 @@ irq-spec =
     (λ c. search rules)
     (λ c κs. search rules)
     (λ c. search rules)
-    (λ c. search irq-none)
+    (λ c. search irq_none)
     (λ c. search rules)
-    (λ c. search irq-first)
+    (λ c. search irq_first)
     (λ c. search rules)
-    (λ c. search irq-second))
+    (λ c. search irq_second))

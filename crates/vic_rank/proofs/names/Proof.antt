@@ -1,4 +1,4 @@
-use Rattle.vic_rank.proofs.Laws.{names-not, names-by-input}
+use Rattle.vic_rank.proofs.Laws.{names_not, names_by_input}
 use Rattle.vic_rank.proofs.names.Statement.{statement}
 use Rattle.vic_rank.proofs.names.Tie as tie
 
@@ -6,5 +6,5 @@ pub names-spec : {M : Type 1} → statement M
 names-spec =
     tie.close
     (tie.spec
-    (λ c. search names-not)
-    (λ c. search names-by-input))
+    (λ c. search names_not)
+    (λ c. search names_by_input))

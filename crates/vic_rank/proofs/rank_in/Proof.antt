@@ -1,5 +1,5 @@
 use borrow.Author.Rules.{rules}
-use Rattle.vic_rank.proofs.Laws.{rank-of-slot, rank-of-input}
+use Rattle.vic_rank.proofs.Laws.{rank_of_slot, rank_of_input}
 use Rattle.vic_rank.proofs.rank_in.Statement.{statement}
 use Rattle.vic_rank.proofs.rank_in.Tie as tie
 
@@ -8,6 +8,6 @@ rank-in-spec =
     tie.close
     (tie.spec
     (λ c κs. search rules)
-    (λ c. search rank-of-slot)
+    (λ c. search rank_of_slot)
     (λ c. search rules)
-    (λ c. search rank-of-input))
+    (λ c. search rank_of_input))

@@ -5,15 +5,15 @@ use native.Mathlib.Omega.{arith}
 use native.Mathlib.Nat.{zero-add}
 use lib.ListN.{length, drop}
 use borrow.Author.Rules.{rules}
-use Rattle.first_where.specs.First.{firstWhere}
-use Rattle.first_where.proofs.Laws.{found_here, found-later, found_nowhere}
+use Rattle.first_where.specs.First.{first_where}
+use Rattle.first_where.proofs.Laws.{found_here, found_later, found_nowhere}
 use Rattle.vic_rank.specs.Rank.{names}
 use Rattle.vic_rank.proofs.slot_of.Statement.{statement}
 use Rattle.vic_rank.proofs.slot_of.Tie as tie
 
 abbrev invariant-loop : tie.invariant-loop
 invariant-loop controls input slot₀ slot =
-    (slot ≤ length controls) × (slot + firstWhere (names input) (drop slot controls) ≡ firstWhere (names input) controls)
+    (slot ≤ length controls) × (slot + first_where (names input) (drop slot controls) ≡ first_where (names input) controls)
 
 abbrev decreases-loop : tie.decreases-loop
 decreases-loop controls input slot₀ slot = length controls - slot
@@ -27,7 +27,7 @@ returns c =
 
 loop-again : tie.Need-loop-preserved invariant-loop decreases-loop
 loop-again c =
-    (omega arith, found-later (names _) _ _ 0 (search rules) (sym c.before.names.ensures ∙ c.if1.false) c.before.before.before.before.loop.invariant.1)
+    (omega arith, found_later (names _) _ _ 0 (search rules) (sym c.before.names.ensures ∙ c.if1.false) c.before.before.before.before.loop.invariant.1)
 
 returns-2 : tie.Need-returns-2 invariant-loop decreases-loop
 returns-2 c = found_nowhere (names _) _ _ (search rules) c.before.loop.invariant.1

@@ -1,5 +1,5 @@
 use borrow.Author.Rules.{rules}
-use Rattle.vic_rank.proofs.Laws.{not-raised, raised-lower, raised-higher}
+use Rattle.vic_rank.proofs.Laws.{not_raised, raised_lower, raised_higher}
 use Rattle.vic_rank.proofs.with_input.Statement.{statement}
 use Rattle.vic_rank.proofs.with_input.Tie as tie
 
@@ -8,7 +8,7 @@ with-input-spec =
     tie.close
     (tie.spec
     (λ c. search rules)
-    (λ c. search not-raised)
+    (λ c. search not_raised)
     (λ c κs. search rules)
-    (λ c. search raised-lower)
-    (λ c. search raised-higher))
+    (λ c. search raised_lower)
+    (λ c. search raised_higher))

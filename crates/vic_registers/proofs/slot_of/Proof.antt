@@ -1,5 +1,5 @@
 use borrow.Author.Rules.{rules}
-use Rattle.vic_registers.proofs.Laws.{slot-none, slot_is}
+use Rattle.vic_registers.proofs.Laws.{slot_none, slot_is}
 use Rattle.vic_registers.proofs.slot_of.Statement.{statement}
 use Rattle.vic_registers.proofs.slot_of.Tie as tie
 
@@ -7,6 +7,6 @@ pub slot-of-spec : {M : Type 1} → statement M
 slot-of-spec =
     tie.close
     (tie.spec
-    (λ c. search slot-none)
+    (λ c. search slot_none)
     (λ c. search rules)
     (λ c. search slot_is))

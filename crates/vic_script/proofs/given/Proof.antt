@@ -1,5 +1,5 @@
 use borrow.Author.Rules.{rules}
-use Rattle.vic_script.proofs.Laws.{given-first, given-second, given-third, given-all}
+use Rattle.vic_script.proofs.Laws.{given_first, given_second, given_third, given_all}
 use Rattle.vic_script.proofs.given.Statement.{statement}
 use Rattle.vic_script.proofs.given.Tie as tie
 
@@ -9,11 +9,11 @@ given-spec =
     (tie.spec
     (λ c. search rules)
     (λ c. search rules)
-    (λ c. search given-first)
+    (λ c. search given_first)
     (λ c. search rules)
     (λ c. search rules)
-    (λ c. search given-second)
+    (λ c. search given_second)
     (λ c. search rules)
     (λ c. search rules)
-    (λ c. search given-third)
-    (λ c. search given-all))
+    (λ c. search given_third)
+    (λ c. search given_all))

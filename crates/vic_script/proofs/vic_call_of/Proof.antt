@@ -1,5 +1,5 @@
 use borrow.Author.Rules.{rules}
-use Rattle.vic_script.proofs.Laws.{line-alone, line-of-two, line-of-more}
+use Rattle.vic_script.proofs.Laws.{line_alone, line_of_two, line_of_more}
 use Rattle.vic_script.proofs.vic_call_of.Statement.{statement}
 use Rattle.vic_script.proofs.vic_call_of.Tie as tie
 
@@ -9,12 +9,12 @@ vic-call-of-spec =
     (tie.spec
     (λ c κs. search rules)
     (λ c κs. search rules)
-    (λ c. search line-alone)
+    (λ c. search line_alone)
     (λ c κs. search rules)
     (λ c κs. search rules)
-    (λ c. search line-of-two)
+    (λ c. search line_of_two)
     (λ c κs. search rules)
     (λ c κs. search rules)
     (λ c κs. search rules)
     (λ c κs. search rules)
-    (λ c. search line-of-more))
+    (λ c. search line_of_more))

@@ -1,11 +1,11 @@
 use borrow.Author.Rules.{rules}
-use Rattle.vic_script.specs.VicCalls.{vicOf}
+use Rattle.vic_script.specs.VicCalls.{vic_of}
 use Rattle.words.proofs.Laws.{named, not_named}
 use Rattle.vic_script.proofs.vic_of.Statement.{statement}
 use Rattle.vic_script.proofs.vic_of.Tie as tie
 
 pub vic-of-spec : {M : Type 1} → statement M
-unfolding vicOf
+unfolding vic_of
 vic-of-spec =
     tie.close
     (tie.spec

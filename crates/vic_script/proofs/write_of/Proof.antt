@@ -1,5 +1,5 @@
 use borrow.Author.Rules.{rules}
-use Rattle.vic_script.proofs.Laws.{write-of-is}
+use Rattle.vic_script.proofs.Laws.{write_of_is}
 use Rattle.vic_script.proofs.write_of.Statement.{statement}
 use Rattle.vic_script.proofs.write_of.Tie as tie
 
@@ -13,4 +13,4 @@ write-of-spec =
     (λ c κs. search rules)
     (λ c κs. search rules)
     (λ c κs. search rules)
-    (λ c. search write-of-is))
+    (λ c. search write_of_is))

@@ -6,14 +6,14 @@ use native.Mathlib.Omega.{arith}
 use native.Mathlib.Nat.{zero-add}
 use lib.ListN.{length, drop}
 use borrow.Author.Rules.{rules}
-use Rattle.first_where.specs.First.{firstWhere}
-use Rattle.first_where.proofs.Laws.{found_here, found-later, found_nowhere}
+use Rattle.first_where.specs.First.{first_where}
+use Rattle.first_where.proofs.Laws.{found_here, found_later, found_nowhere}
 use Rattle.vic_service.proofs.last_taken.Statement.{statement}
 use Rattle.vic_service.proofs.last_taken.Tie as tie
 
 abbrev invariant-loop : tie.invariant-loop
 invariant-loop service rank₀ rank =
-    (rank ≤ length service) × (rank + firstWhere (λ b. b) (drop rank service) ≡ firstWhere (λ b. b) service)
+    (rank ≤ length service) × (rank + first_where (λ b. b) (drop rank service) ≡ first_where (λ b. b) service)
 
 abbrev decreases-loop : tie.decreases-loop
 decreases-loop service rank₀ rank = length service - rank
@@ -25,7 +25,7 @@ returns : tie.Need-returns invariant-loop decreases-loop
 returns c = found_here (λ b. b) _ _ false (search rules) c.if1.true c.before.before.before.loop.invariant.1
 
 loop-again : tie.Need-loop-preserved invariant-loop decreases-loop
-loop-again c = (omega arith, found-later (λ b. b) _ _ false (search rules) c.if1.false c.before.before.before.loop.invariant.1)
+loop-again c = (omega arith, found_later (λ b. b) _ _ false (search rules) c.if1.false c.before.before.before.loop.invariant.1)
 
 returns-2 : tie.Need-returns-2 invariant-loop decreases-loop
 returns-2 c = found_nowhere (λ b. b) _ _ (search rules) c.before.loop.invariant.1

@@ -1,5 +1,5 @@
 use borrow.Author.Rules.{rules}
-use Rattle.vic_service.proofs.Laws.{no-such-rank}
+use Rattle.vic_service.proofs.Laws.{no_such_rank}
 use Rattle.vic_service.proofs.taken.Statement.{statement}
 use Rattle.vic_service.proofs.taken.Tie as tie
 
@@ -7,6 +7,6 @@ pub taken-spec : {M : Type 1} → statement M
 taken-spec =
     tie.close
     (tie.spec
-    (λ c. no-such-rank c.before.args.service _ _ (search rules) c.if1.true)
+    (λ c. no_such_rank c.before.args.service _ _ (search rules) c.if1.true)
     (λ c. search rules)
     (λ c. search rules))

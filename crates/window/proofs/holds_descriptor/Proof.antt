@@ -1,5 +1,5 @@
 use borrow.Author.Rules.{rules}
-use Rattle.window.proofs.Laws.{misaligned-no, sixteen-inside}
+use Rattle.window.proofs.Laws.{misaligned_no, sixteen_inside}
 use Rattle.window.proofs.holds_descriptor.Statement.{statement}
 use Rattle.window.proofs.holds_descriptor.Tie as tie
 
@@ -8,6 +8,6 @@ holds-descriptor-spec =
     tie.close
     (tie.spec
     (λ c κs. search rules)
-    (λ c. search (misaligned-no, sixteen-inside))
+    (λ c. search (misaligned_no, sixteen_inside))
     (λ c κs. search rules)
-    (λ c. search sixteen-inside))
+    (λ c. search sixteen_inside))

@@ -1,5 +1,5 @@
 use borrow.Author.Rules.{rules}
-use Rattle.window.proofs.Laws.{allowed-ways}
+use Rattle.window.proofs.Laws.{allowed_ways}
 use Rattle.window.proofs.window_allowed.Statement.{statement}
 use Rattle.window.proofs.window_allowed.Tie as tie
 
@@ -7,9 +7,9 @@ pub window-allowed-spec : {M : Type 1} → statement M
 window-allowed-spec =
     tie.close
     (tie.spec
-    (λ c. search allowed-ways)
-    (λ c. search allowed-ways)
-    (λ c. search allowed-ways)
-    (λ c. search allowed-ways)
+    (λ c. search allowed_ways)
+    (λ c. search allowed_ways)
+    (λ c. search allowed_ways)
+    (λ c. search allowed_ways)
     (λ c. search rules)
-    (λ c. search allowed-ways))
+    (λ c. search allowed_ways))

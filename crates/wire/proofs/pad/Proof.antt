@@ -1,7 +1,7 @@
 use borrow.Author.Rules.{rules}
 use native.Mathlib.Omega.{arith}
 use lib.ListN.{length-take}
-use Rattle.wire.proofs.Laws.{padding, no-padding}
+use Rattle.wire.proofs.Laws.{padding, no_padding}
 use Rattle.wire.proofs.pad.Statement.{statement}
 use Rattle.wire.proofs.pad.Tie as tie
 
@@ -15,4 +15,4 @@ pad-spec =
     (λ c κs. tt)
     (λ c. search rules)
     (λ c. padding _ _ _ c.before.before.store.ensures)
-    (λ c. search no-padding))
+    (λ c. search no_padding))

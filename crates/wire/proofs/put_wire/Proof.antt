@@ -1,5 +1,5 @@
 use borrow.Author.Rules.{rules}
-use Rattle.wire.proofs.Laws.{none-counted, none-put, all-counted, all-put}
+use Rattle.wire.proofs.Laws.{none_counted, none_put, all_counted, all_put}
 use Rattle.wire.proofs.put_wire.Statement.{statement}
 use Rattle.wire.proofs.put_wire.Tie as tie
 
@@ -11,7 +11,7 @@ put-wire-spec =
     (λ c. search rules)
     (λ c.
     let w = c.before.wire-fits in
-    (none-counted _ _ _ w.ensures c.if1.true, none-put _ _ _ w.ensures c.if1.true))
+    (none_counted _ _ _ w.ensures c.if1.true, none_put _ _ _ w.ensures c.if1.true))
     (λ c κs. tt)
     (λ c κs. tt)
     (λ c κs. tt)
@@ -25,6 +25,6 @@ put-wire-spec =
     let o = p.before.before.before.before in
     let i = o.before.before in
     let w = i.before.wire-fits in (
-      all-counted _ _ _ _ w.ensures i.if1.false l.padded-length.ensures,
-      all-put _ _ _ _ _ _ _ w.ensures i.if1.false o.store.ensures p.pad.ensures l.padded-length.ensures s.close.ensures.1,
+      all_counted _ _ _ _ w.ensures i.if1.false l.padded-length.ensures,
+      all_put _ _ _ _ _ _ _ w.ensures i.if1.false o.store.ensures p.pad.ensures l.padded-length.ensures s.close.ensures.1,
     )))

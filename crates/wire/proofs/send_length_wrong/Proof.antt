@@ -1,4 +1,4 @@
-use Rattle.wire.proofs.Laws.{under-14, from-14}
+use Rattle.wire.proofs.Laws.{under_14, from_14}
 use Rattle.wire.proofs.send_length_wrong.Statement.{statement}
 use Rattle.wire.proofs.send_length_wrong.Tie as tie
 
@@ -6,5 +6,5 @@ pub send-length-wrong-spec : {M : Type 1} → statement M
 send-length-wrong-spec =
     tie.close
     (tie.spec
-    (λ c. under-14 _ c.if1.true)
-    (λ c. from-14 _ c.if1.false))
+    (λ c. under_14 _ c.if1.true)
+    (λ c. from_14 _ c.if1.false))

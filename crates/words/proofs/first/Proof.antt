@@ -2,7 +2,7 @@
 use borrow.Author.Rules.{rules}
 use native.Mathlib.Omega.{arith}
 use lib.ListN.{length-take}
-use Rattle.words.proofs.Laws.{first-is}
+use Rattle.words.proofs.Laws.{first_is}
 use Rattle.words.proofs.first.Statement.{statement}
 use Rattle.words.proofs.first.Tie as tie
 
@@ -12,4 +12,4 @@ first_spec =
     (tie.spec
     (λ c κs. search rules)
     (λ c. simp length-take (omega arith))
-    (λ c. search first-is))
+    (λ c. search first_is))

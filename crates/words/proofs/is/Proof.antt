@@ -1,6 +1,6 @@
 -- `words::is` meets its contract. Assumes nothing.
 use borrow.Author.Rules.{rules}
-use Rattle.words.proofs.Laws.{same-is}
+use Rattle.words.proofs.Laws.{same_is}
 use Rattle.words.proofs.is.Statement.{statement}
 use Rattle.words.proofs.is.Tie as tie
 
@@ -9,4 +9,4 @@ is-spec =
     tie.close
     (tie.spec
     (λ c κs. search rules)
-    (λ c. search same-is))
+    (λ c. search same_is))

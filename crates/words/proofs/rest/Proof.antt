@@ -1,6 +1,6 @@
 -- `words::rest` meets its contract. Assumes nothing.
 use borrow.Author.Rules.{rules}
-use Rattle.words.proofs.Laws.{rest-none, rest-is}
+use Rattle.words.proofs.Laws.{rest_none, rest_is}
 use Rattle.words.proofs.rest.Statement.{statement}
 use Rattle.words.proofs.rest.Tie as tie
 
@@ -12,9 +12,9 @@ rest-spec =
     (λ c. search rules)
     (λ c. search rules)
     (λ c. search rules)
-    (λ c. search rest-none)
+    (λ c. search rest_none)
     (λ c. search rules)
     (λ c. search rules)
     (λ c. search rules)
     (λ c. search rules)
-    (λ c. search rest-is))
+    (λ c. search rest_is))

@@ -7,7 +7,7 @@ use native.Mathlib.Omega.{arith}
 use lib.ListN.{length, replicate, length-set}
 use Rattle.memory.specs.Memory.{store}
 use Rattle.memory.proofs.Laws.{store_out}
-use Rattle.block.proofs.Clearing.{Least, clear-turn, clear-end}
+use Rattle.block.proofs.Clearing.{Least, clear_turn, clear_end}
 use Rattle.block.proofs.made.clear.Statement.{statement}
 use Rattle.block.proofs.made.clear.Tie as tie
 
@@ -50,7 +50,7 @@ loop-again : tie.Need-loop-preserved invariant-loop decreases-loop
 loop-again c =
     let l = c.before.loop in
     let a = c.before.before.before.before.args in
-    (omega arith, (l.invariant.1.0, (simp length-set l.invariant.1.1.0, clear-turn l.room a.at a.n l.i (omega arith) ∙ l.invariant.1.1.1)))
+    (omega arith, (l.invariant.1.0, (simp length-set l.invariant.1.1.0, clear_turn l.room a.at a.n l.i (omega arith) ∙ l.invariant.1.1.1)))
 
 same_length : tie.Need-same-length invariant-loop decreases-loop
 same_length c = omega arith
@@ -59,7 +59,7 @@ returns-2 : tie.Need-returns-2 invariant-loop decreases-loop
 returns-2 c =
     let l = c.before.loop in
     let a = c.before.before.before.before.args in
-    clear-end a.room.now l.room a.at a.n l.i _ l.invariant.1.1.0 (omega arith) l.invariant.1.0.which l.invariant.1.1.1
+    clear_end a.room.now l.room a.at a.n l.i _ l.invariant.1.1.0 (omega arith) l.invariant.1.0.which l.invariant.1.1.1
 
 pub clear_spec : {M : Type 1} → statement M
 clear_spec =

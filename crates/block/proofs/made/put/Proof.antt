@@ -1,7 +1,7 @@
 -- `block::made::put` meets its contract. Assumes nothing.
 use borrow.Author.Rules.{rules}
 use Rattle.memory.proofs.Laws.{store_out}
-use Rattle.block.proofs.Blocks.{part-long-enough, put-short, put_whole}
+use Rattle.block.proofs.Blocks.{part_long_enough, put_short, put_whole}
 use Rattle.block.proofs.made.put.Statement.{statement}
 use Rattle.block.proofs.made.put.Tie as tie
 
@@ -13,9 +13,9 @@ put_spec =
     (λ c κs. search rules)
     (λ c. search rules)
     (λ c. search rules)
-    (λ c. search put-short)
+    (λ c. search put_short)
     (λ c κs. search rules)
-    (λ c κs. search part-long-enough)
+    (λ c κs. search part_long_enough)
     (λ c. search rules)
     (λ c κs. search rules)
     (λ c. search rules)

@@ -4,7 +4,7 @@ use Prim.Native.Nat.{◌+◌, ◌*◌, ◌≤◌, ◌-◌}
 use mathlib.Core.Path.{◌≡◌}
 use native.Mathlib.Nat.{zero-add}
 use native.Mathlib.Omega.{arith}
-use Rattle.block.proofs.Weights.{left, weigh-turn, weigh-end}
+use Rattle.block.proofs.Weights.{left, weigh_turn, weigh_end}
 use Rattle.block.proofs.sums.weigh.Statement.{statement}
 use Rattle.block.proofs.sums.weigh.Tie as tie
 
@@ -51,7 +51,7 @@ loop-again c =
     let start = c.before.before.before.before.before.before.before.before.before.before.before in
     let small = c.four.ensures.1 in
     let turn =
-    weigh-turn start.args.a.now start.args.b.now start.args.c.now start.args.d.now start.requires.0 start.requires.1.0 start.requires.1.1.0 start.requires.1.1.1
+    weigh_turn start.args.a.now start.args.b.now start.args.c.now start.args.d.now start.requires.0 start.requires.1.0 start.requires.1.1.0 start.requires.1.1.1
     l.i l.weight l.sum _ _ (omega arith) l.invariant.1.0 l.invariant.1.1.1 c.four.ensures.0 in
     (omega arith, (omega arith, (omega arith, turn)))
 
@@ -59,7 +59,7 @@ returns : tie.Need-returns invariant-loop decreases-loop
 returns c =
     let l = c.before.loop in
     let start = c.before.before.before.before.before.before in
-    weigh-end start.args.a.now start.args.b.now start.args.c.now start.args.d.now start.requires.0 start.requires.1.0 start.requires.1.1.0 start.requires.1.1.1
+    weigh_end start.args.a.now start.args.b.now start.args.c.now start.args.d.now start.requires.0 start.requires.1.0 start.requires.1.1.0 start.requires.1.1.1
     l.i l.sum _ (omega arith) l.invariant.1.1.1
 
 pub weigh-spec : {M : Type 1} → statement M

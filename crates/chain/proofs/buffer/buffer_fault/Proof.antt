@@ -1,5 +1,5 @@
 use borrow.Author.Rules.{rules}
-use Rattle.chain.proofs.BufferLaws.{fault-low-bit, fault-room, fault-bytes}
+use Rattle.chain.proofs.BufferLaws.{fault_low_bit, fault_room, fault_bytes}
 use Rattle.chain.proofs.buffer.buffer_fault.Statement.{statement}
 use Rattle.chain.proofs.buffer.buffer_fault.Tie as tie
 
@@ -8,11 +8,11 @@ buffer-fault-spec =
     tie.close
     (tie.spec
     (λ c κs. search rules)
-    (λ c. search (fault-low-bit, fault-room, fault-bytes))
+    (λ c. search (fault_low_bit, fault_room, fault_bytes))
     (λ c κs. search rules)
     (λ c. search rules)
-    (λ c. search (fault-low-bit, fault-room, fault-bytes))
+    (λ c. search (fault_low_bit, fault_room, fault_bytes))
     (λ c κs. search rules)
     (λ c. search rules)
     (λ c κs. search rules)
-    (λ c. search fault-bytes))
+    (λ c. search fault_bytes))

@@ -1,5 +1,5 @@
 use borrow.Author.Rules.{rules}
-use Rattle.counters.proofs.Laws.{receive-delivers, receive-loses, receive-neither}
+use Rattle.counters.proofs.Laws.{receive_delivers, receive_loses, receive_neither}
 use Rattle.counters.proofs.Counters.after_receive.Statement.{statement}
 use Rattle.counters.proofs.Counters.after_receive.Tie as tie
 
@@ -8,7 +8,7 @@ after-receive-spec =
     tie.close
     (tie.spec
     (λ c κs. search rules)
-    (λ c. search receive-delivers)
+    (λ c. search receive_delivers)
     (λ c κs. search rules)
-    (λ c. search receive-loses)
-    (λ c. search receive-neither))
+    (λ c. search receive_loses)
+    (λ c. search receive_neither))

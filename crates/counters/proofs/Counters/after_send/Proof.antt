@@ -1,5 +1,5 @@
 use borrow.Author.Rules.{rules}
-use Rattle.counters.proofs.Laws.{send-sends, send-does-not}
+use Rattle.counters.proofs.Laws.{send_sends, send_does_not}
 use Rattle.counters.proofs.Counters.after_send.Statement.{statement}
 use Rattle.counters.proofs.Counters.after_send.Tie as tie
 
@@ -8,5 +8,5 @@ after-send-spec =
     tie.close
     (tie.spec
     (λ c κs. search rules)
-    (λ c. search send-sends)
-    (λ c. search send-does-not))
+    (λ c. search send_sends)
+    (λ c. search send_does_not))

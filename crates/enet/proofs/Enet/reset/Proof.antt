@@ -1,5 +1,5 @@
 use borrow.Author.Rules.{rules}
-use Rattle.enet.proofs.Laws.{reset-is}
+use Rattle.enet.proofs.Laws.{reset_is}
 use Rattle.enet.proofs.Enet.reset.Statement.{statement}
 use Rattle.enet.proofs.Enet.reset.Tie as tie
 
@@ -9,4 +9,4 @@ reset-spec =
     (tie.spec
     (λ c κs. search rules)
     (λ c κs. search rules)
-    (λ c. search reset-is))
+    (λ c. search reset_is))

@@ -1,5 +1,5 @@
 use borrow.Author.Rules.{rules}
-use Rattle.engine.proofs.Laws.{place-led-to}
+use Rattle.engine.proofs.Laws.{place_led_to}
 use Rattle.engine.proofs.Engine.led_to.Statement.{statement}
 use Rattle.engine.proofs.Engine.led_to.Tie as tie
 
@@ -9,4 +9,4 @@ led-to-spec =
     (tie.spec
     (λ c κs. search rules)
     (λ c κs. search rules)
-    (λ c. search place-led-to))
+    (λ c. search place_led_to))

@@ -1,4 +1,4 @@
-use Rattle.engine.proofs.Laws.{starts-still}
+use Rattle.engine.proofs.Laws.{starts_still}
 use Rattle.engine.proofs.Engine.reset.Statement.{statement}
 use Rattle.engine.proofs.Engine.reset.Tie as tie
 
@@ -6,4 +6,4 @@ pub reset-spec : {M : Type 1} → statement M
 reset-spec =
     tie.close
     (tie.spec
-    (λ c. starts-still _ _))
+    (λ c. starts_still _ _))

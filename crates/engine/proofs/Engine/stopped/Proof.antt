@@ -1,4 +1,4 @@
-use Rattle.engine.proofs.Laws.{runs-no-more}
+use Rattle.engine.proofs.Laws.{runs_no_more}
 use Rattle.engine.proofs.Engine.stopped.Statement.{statement}
 use Rattle.engine.proofs.Engine.stopped.Tie as tie
 
@@ -6,4 +6,4 @@ pub stopped-spec : {M : Type 1} → statement M
 stopped-spec =
     tie.close
     (tie.spec
-    (λ c. runs-no-more c.args.self))
+    (λ c. runs_no_more c.args.self))

@@ -1,6 +1,6 @@
 -- `forms::numbers::decimal` meets its contract. Assumes nothing.
 use borrow.Author.Rules.{rules}
-use Rattle.forms.proofs.NumberLaws.{decimal-wrong, decimal-over, decimal-is}
+use Rattle.forms.proofs.NumberLaws.{decimal_wrong, decimal_over, decimal_is}
 use Rattle.forms.proofs.numbers.decimal.Statement.{statement}
 use Rattle.forms.proofs.numbers.decimal.Tie as tie
 
@@ -11,6 +11,6 @@ decimal-spec =
     (λ c κs. search rules)
     (λ c. search rules)
     (λ c. search rules)
-    (λ c. search decimal-wrong)
-    (λ c. search decimal-over)
-    (λ c. search decimal-is))
+    (λ c. search decimal_wrong)
+    (λ c. search decimal_over)
+    (λ c. search decimal_is))

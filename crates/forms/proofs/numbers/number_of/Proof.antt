@@ -6,13 +6,13 @@ use mathlib.Core.Path.{◌≡◌, sym}
 use Prim.Native.Nat.{◌-◌, ◌^◌, ◌≤◌, ◌<◌}
 use lib.ListN.{length, drop}
 use Rattle.rules.proofs.Choices.{choices}
-use Rattle.forms.specs.Numbers.{number_of, numberFrom}
-use Rattle.forms.proofs.NumberLaws.{number_more, number-stop, number-end, digit-more, digit-fits, product-fits}
+use Rattle.forms.specs.Numbers.{number_of, number_from}
+use Rattle.forms.proofs.NumberLaws.{number_more, number_stop, number_end, digit_more, digit_fits, product_fits}
 use Rattle.forms.proofs.numbers.number_of.Statement.{statement}
 use Rattle.forms.proofs.numbers.number_of.Tie as tie
 
 abbrev invariant-loop : tie.invariant-loop
-invariant-loop word base n₀ i₀ n i = (i ≤ length word) × ((n < 16 ^ i) × (number_of base word ≡ numberFrom base n (drop i word)))
+invariant-loop word base n₀ i₀ n i = (i ≤ length word) × ((n < 16 ^ i) × (number_of base word ≡ number_from base n (drop i word)))
 
 abbrev decreases-loop : tie.decreases-loop
 decreases-loop word base n₀ i₀ n i = length word - i
@@ -36,13 +36,13 @@ digit-requires : tie.Need-digit-requires invariant-loop decreases-loop
 digit-requires c κs = search rules
 
 returns-3 : tie.Need-returns-3 invariant-loop decreases-loop
-returns-3 c = search number-stop
+returns-3 c = search number_stop
 
 mul-n : tie.Need-overflow-mul-n invariant-loop decreases-loop
-mul-n c = record { fits = search product-fits }
+mul-n c = record { fits = search product_fits }
 
 add-n : tie.Need-overflow-add-n invariant-loop decreases-loop
-add-n c = record { fits = search digit-fits }
+add-n c = record { fits = search digit_fits }
 
 add-i : tie.Need-overflow-add-i invariant-loop decreases-loop
 add-i c = omega arith
@@ -51,10 +51,10 @@ loop-less : tie.Need-loop-smaller invariant-loop decreases-loop
 loop-less c = omega arith
 
 loop-again : tie.Need-loop-preserved invariant-loop decreases-loop
-loop-again c = (omega arith, (search digit-more, search number_more))
+loop-again c = (omega arith, (search digit_more, search number_more))
 
 returns-4 : tie.Need-returns-4 invariant-loop decreases-loop
-returns-4 c = search number-end
+returns-4 c = search number_end
 
 pub number-of-spec : {M : Type 1} → statement M
 number-of-spec =

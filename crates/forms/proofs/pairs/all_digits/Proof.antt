@@ -4,13 +4,13 @@ use native.Mathlib.Omega.{arith}
 use mathlib.Core.Path.{◌≡◌, refl}
 use Prim.Native.Nat.{◌-◌, ◌≤◌}
 use lib.ListN.{length, drop}
-use Rattle.forms.specs.Pairs.{allDigits}
-use Rattle.forms.proofs.PairLaws.{digits_more, digits-stop, digits-end}
+use Rattle.forms.specs.Pairs.{all_digits}
+use Rattle.forms.proofs.PairLaws.{digits_more, digits_stop, digits_end}
 use Rattle.forms.proofs.pairs.all_digits.Statement.{statement}
 use Rattle.forms.proofs.pairs.all_digits.Tie as tie
 
 abbrev invariant-loop : tie.invariant-loop
-invariant-loop word i₀ i = (i ≤ length word) × (allDigits word ≡ allDigits (drop i word))
+invariant-loop word i₀ i = (i ≤ length word) × (all_digits word ≡ all_digits (drop i word))
 
 abbrev decreases-loop : tie.decreases-loop
 decreases-loop word i₀ i = length word - i
@@ -25,7 +25,7 @@ digit-requires : tie.Need-digit-requires invariant-loop decreases-loop
 digit-requires c κs = search rules
 
 returns : tie.Need-returns invariant-loop decreases-loop
-returns c = search digits-stop
+returns c = search digits_stop
 
 add-i : tie.Need-overflow-add-i invariant-loop decreases-loop
 add-i c = omega arith
@@ -37,7 +37,7 @@ loop-again : tie.Need-loop-preserved invariant-loop decreases-loop
 loop-again c = (omega arith, search digits_more)
 
 returns-2 : tie.Need-returns-2 invariant-loop decreases-loop
-returns-2 c = search digits-end
+returns-2 c = search digits_end
 
 pub all-digits-spec : {M : Type 1} → statement M
 all-digits-spec =

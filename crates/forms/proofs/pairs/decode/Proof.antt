@@ -6,7 +6,7 @@ use Prim.Native.Nat.{◌-◌, ◌*◌, ◌≤◌}
 use lib.ListN.{length, drop}
 use lib.Seq.{sets}
 use Rattle.forms.specs.Pairs.{bytes_of}
-use Rattle.forms.proofs.PairLaws.{pairs-more, pairs_end}
+use Rattle.forms.proofs.PairLaws.{pairs_more, pairs_end}
 use Rattle.forms.proofs.pairs.decode.Statement.{statement}
 use Rattle.forms.proofs.pairs.decode.Tie as tie
 
@@ -50,7 +50,7 @@ loop-less : tie.Need-loop-smaller invariant-loop decreases-loop
 loop-less c = omega arith
 
 loop-again : tie.Need-loop-preserved invariant-loop decreases-loop
-loop-again c = (omega arith, (omega arith, search pairs-more))
+loop-again c = (omega arith, (omega arith, search pairs_more))
 
 same_length : tie.Need-same-length invariant-loop decreases-loop
 same_length c = search rules

@@ -2,7 +2,7 @@
 use Prim.Native.Nat.{◌-◌}
 use native.Mathlib.Omega.{arith}
 use lib.ListN.{length}
-use Rattle.pcap_import.proofs.Filling.{Filling, filling-begins, filling-room, filling-fits, filling-least, filling-on, filling-ends}
+use Rattle.pcap_import.proofs.Filling.{Filling, filling_begins, filling_room, filling_fits, filling_least, filling_on, filling_ends}
 use borrow.Author.Rules.{rules}
 use Rattle.pcap_import.proofs.frames.put_all.Statement.{statement}
 use Rattle.pcap_import.proofs.frames.put_all.Tie as tie
@@ -20,36 +20,36 @@ put-all-spec =
     invariant-loop
     decreases-loop
     (λ c κs. search rules)
-    (λ c. filling-begins _ _ _ _ (omega arith) c.size-at.ensures)
+    (λ c. filling_begins _ _ _ _ (omega arith) c.size-at.ensures)
     (λ c κs. search rules)
-    (λ c κs. filling-fits _ _ _ _ _ _ _ _ _ c.before.before.before.loop.invariant _ c.before.part.ensures)
+    (λ c κs. filling_fits _ _ _ _ _ _ _ _ _ c.before.before.before.loop.invariant _ c.before.part.ensures)
     (λ c κs. search rules)
     (λ c.
     let loop-at = c.before.before.before.before.before.before.before.before.before.before in
-    let r = filling-room _ _ _ _ _ _ _ _ _ loop-at.loop.invariant in let few = loop-at.loop.invariant.few in omega arith)
+    let r = filling_room _ _ _ _ _ _ _ _ _ loop-at.loop.invariant in let few = loop-at.loop.invariant.few in omega arith)
     (λ c.
     let test_at = c.before.before.before.before.before.before.before.before.before in
     let loop-at = test_at.before in
-    let l = filling-least _ _ _ _ _ _ _ _ _ loop-at.loop.invariant test_at.loop-test.true in omega arith)
+    let l = filling_least _ _ _ _ _ _ _ _ _ loop-at.loop.invariant test_at.loop-test.true in omega arith)
     (λ c.
     let test_at = c.before.before.before.before.before.before.before.before.before in
     let loop-at = test_at.before in
-    let r = filling-room _ _ _ _ _ _ _ _ _ loop-at.loop.invariant in let few = loop-at.loop.invariant.few in let b = loop-at.loop.invariant.before in let l = filling-least _ _ _ _ _ _ _ _ _ loop-at.loop.invariant test_at.loop-test.true in omega arith)
+    let r = filling_room _ _ _ _ _ _ _ _ _ loop-at.loop.invariant in let few = loop-at.loop.invariant.few in let b = loop-at.loop.invariant.before in let l = filling_least _ _ _ _ _ _ _ _ _ loop-at.loop.invariant test_at.loop-test.true in omega arith)
     (λ c.
     let test_at = c.before.before.before.before.before.before.before.before.before in
     let loop-at = test_at.before in
-    let r = filling-room _ _ _ _ _ _ _ _ _ loop-at.loop.invariant in let few = loop-at.loop.invariant.few in let h = loop-at.loop.invariant.half in let l = filling-least _ _ _ _ _ _ _ _ _ loop-at.loop.invariant test_at.loop-test.true in omega arith)
+    let r = filling_room _ _ _ _ _ _ _ _ _ loop-at.loop.invariant in let few = loop-at.loop.invariant.few in let h = loop-at.loop.invariant.half in let l = filling_least _ _ _ _ _ _ _ _ _ loop-at.loop.invariant test_at.loop-test.true in omega arith)
     (λ c κs. search rules)
     (λ c.
     let loop-at = c.before.before.before.before.before.before.before.before.before.before.before in
-    let r = filling-room _ _ _ _ _ _ _ _ _ loop-at.loop.invariant in let few = loop-at.loop.invariant.few in omega arith)
+    let r = filling_room _ _ _ _ _ _ _ _ _ loop-at.loop.invariant in let few = loop-at.loop.invariant.few in omega arith)
     (λ c.
     let put-time-at = c.before.before.before in
     let put-event-at = put-time-at.before.before.before.before in
     let part_at = put-event-at.before.before in
     let test_at = part_at.before in
     let loop-at = test_at.before in
-    filling-on _ _ _ _ _ _ _ _ _ loop-at.loop.invariant test_at.loop-test.true _ _ _ _ part_at.part.ensures put-event-at.put-event.ensures put-time-at.put-time.ensures c.size-at2.ensures)
-    (λ c. c.before.loop.invariant.same-events)
-    (λ c. c.before.loop.invariant.same-times)
-    (λ c. filling-ends _ _ _ _ _ _ _ _ _ c.before.loop.invariant c.loop-test.false))
+    filling_on _ _ _ _ _ _ _ _ _ loop-at.loop.invariant test_at.loop-test.true _ _ _ _ part_at.part.ensures put-event-at.put-event.ensures put-time-at.put-time.ensures c.size-at2.ensures)
+    (λ c. c.before.loop.invariant.same_events)
+    (λ c. c.before.loop.invariant.same_times)
+    (λ c. filling_ends _ _ _ _ _ _ _ _ _ c.before.loop.invariant c.loop-test.false))

@@ -1,5 +1,5 @@
 use Rattle.memory.proofs.Laws.{store_out}
-use Rattle.pcap_import.proofs.Filling.{time-put}
+use Rattle.pcap_import.proofs.Filling.{time_put}
 use borrow.Author.Rules.{rules}
 use Rattle.pcap_import.proofs.frames.put_time.Statement.{statement}
 use Rattle.pcap_import.proofs.frames.put_time.Tie as tie
@@ -15,4 +15,4 @@ put-time-spec =
     (λ c. search rules)
     (λ c κs. search rules)
     (λ c. search rules)
-    (λ c. search time-put))
+    (λ c. search time_put))

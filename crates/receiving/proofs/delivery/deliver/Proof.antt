@@ -1,5 +1,5 @@
 use borrow.Author.Rules.{rules}
-use Rattle.receiving.proofs.Laws.{delivered-is}
+use Rattle.receiving.proofs.Laws.{delivered_is}
 use Rattle.receiving.proofs.delivery.deliver.Statement.{statement}
 use Rattle.receiving.proofs.delivery.deliver.Tie as tie
 
@@ -14,4 +14,4 @@ deliver-spec =
     (λ c κs. search rules)
     (λ c κs. search rules)
     (λ c. search rules)
-    (λ c. search delivered-is))
+    (λ c. search delivered_is))

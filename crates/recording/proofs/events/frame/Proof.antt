@@ -1,5 +1,5 @@
 use borrow.Author.Rules.{rules}
-use Rattle.recording.proofs.ByteLaws.{frame-appended}
+use Rattle.recording.proofs.ByteLaws.{frame_appended}
 use Rattle.recording.proofs.events.frame.Statement.{statement}
 use Rattle.recording.proofs.events.frame.Tie as tie
 
@@ -16,4 +16,4 @@ frame-spec =
     (λ c κs. search rules)
     (λ c κs. search rules)
     (λ c. search rules)
-    (λ c. search frame-appended))
+    (λ c. search frame_appended))

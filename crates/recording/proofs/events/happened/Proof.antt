@@ -1,5 +1,5 @@
 use borrow.Author.Rules.{rules}
-use Rattle.recording.proofs.ByteLaws.{happened-past, happened-there}
+use Rattle.recording.proofs.ByteLaws.{happened_past, happened_there}
 use Rattle.recording.proofs.events.happened.Statement.{statement}
 use Rattle.recording.proofs.events.happened.Tie as tie
 
@@ -8,5 +8,5 @@ happened-spec =
     tie.close
     (tie.spec
     (λ c κs. search rules)
-    (λ c. search happened-past)
-    (λ c. search happened-there))
+    (λ c. search happened_past)
+    (λ c. search happened_there))

@@ -1,5 +1,5 @@
 use borrow.Author.Rules.{rules}
-use Rattle.recording.proofs.ByteLaws.{send-short, send-appended}
+use Rattle.recording.proofs.ByteLaws.{send_short, send_appended}
 use Rattle.recording.proofs.events.send.Statement.{statement}
 use Rattle.recording.proofs.events.send.Tie as tie
 
@@ -8,9 +8,9 @@ send-spec =
     tie.close
     (tie.spec
     (λ c κs. search rules)
-    (λ c. search send-short)
+    (λ c. search send_short)
     (λ c κs. search rules)
     (λ c κs. search rules)
     (λ c κs. search rules)
     (λ c. search rules)
-    (λ c. search send-appended))
+    (λ c. search send_appended))

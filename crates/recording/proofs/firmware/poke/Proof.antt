@@ -1,6 +1,6 @@
 use borrow.Author.Rules.{rules}
-use Rattle.recording.proofs.ByteLaws.{poke-named}
-use Rattle.forms.proofs.NamedLaws.{named-short}
+use Rattle.recording.proofs.ByteLaws.{poke_named}
+use Rattle.forms.proofs.NamedLaws.{named_short}
 use Rattle.recording.proofs.firmware.poke.Statement.{statement}
 use Rattle.recording.proofs.firmware.poke.Tie as tie
 
@@ -13,6 +13,6 @@ poke_spec =
     (λ c κs. search rules)
     (λ c. search rules)
     (λ c κs. search rules)
-    (λ c κs. search named-short)
+    (λ c κs. search named_short)
     (λ c. search rules)
-    (λ c. search poke-named))
+    (λ c. search poke_named))

@@ -1,5 +1,5 @@
 use borrow.Author.Rules.{rules}
-use Rattle.recording.proofs.ByteLaws.{poke-wrong, poke-stored}
+use Rattle.recording.proofs.ByteLaws.{poke_wrong, poke_stored}
 use Rattle.recording.proofs.firmware.stored.Statement.{statement}
 use Rattle.recording.proofs.firmware.stored.Tie as tie
 
@@ -10,8 +10,8 @@ stored-spec =
     (λ c. search rules)
     (λ c κs. search rules)
     (λ c κs. search rules)
-    (λ c. search poke-wrong)
+    (λ c. search poke_wrong)
     (λ c κs. search rules)
     (λ c κs. search rules)
     (λ c. search rules)
-    (λ c. search poke-stored))
+    (λ c. search poke_stored))

@@ -1,10 +1,10 @@
-use Rattle.registers.specs.Access.{registerAt}
-use Rattle.registers.proofs.Laws.{at-no-other}
+use Rattle.registers.specs.Access.{register_at}
+use Rattle.registers.proofs.Laws.{at_no_other}
 use Rattle.registers.proofs.Register.at.Statement.{statement}
 use Rattle.registers.proofs.Register.at.Tie as tie
 
 pub at-spec : {M : Type 1} → statement M
-unfolding registerAt
+unfolding register_at
 at-spec =
     tie.close
     (tie.spec
@@ -20,4 +20,4 @@ at-spec =
     (λ c. rw c.match.keys10)
     (λ c. rw c.match.keys11)
     (λ c. rw c.match.keys12)
-    (λ c. search at-no-other))
+    (λ c. search at_no_other))

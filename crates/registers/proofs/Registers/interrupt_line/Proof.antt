@@ -1,4 +1,4 @@
-use Rattle.registers.proofs.Laws.{line-is}
+use Rattle.registers.proofs.Laws.{line_is}
 use Rattle.registers.proofs.Registers.interrupt_line.Statement.{statement}
 use Rattle.registers.proofs.Registers.interrupt_line.Tie as tie
 
@@ -6,4 +6,4 @@ pub interrupt-line-spec : {M : Type 1} → statement M
 interrupt-line-spec =
     tie.close
     (tie.spec
-    (λ c. search line-is))
+    (λ c. search line_is))

@@ -1,5 +1,5 @@
 use borrow.Author.Rules.{rules}
-use Rattle.registers.proofs.Laws.{reset-values}
+use Rattle.registers.proofs.Laws.{reset_values}
 use Rattle.registers.proofs.Registers.reset.Statement.{statement}
 use Rattle.registers.proofs.Registers.reset.Tie as tie
 
@@ -9,4 +9,4 @@ reset-spec =
     (tie.spec
     (λ c κs. search rules)
     (λ c κs. search rules)
-    (λ c. search reset-values))
+    (λ c. search reset_values))

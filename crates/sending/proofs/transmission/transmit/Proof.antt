@@ -1,5 +1,5 @@
 use borrow.Author.Rules.{rules}
-use Rattle.sending.proofs.Laws.{put-counted, put-stored}
+use Rattle.sending.proofs.Laws.{put_counted, put_stored}
 use Rattle.sending.proofs.transmission.transmit.Statement.{statement}
 use Rattle.sending.proofs.transmission.transmit.Tie as tie
 
@@ -16,4 +16,4 @@ transmit-spec =
     (λ c κs. search rules)
     (λ c. search rules)
     (λ c. search rules)
-    (λ c. record { count = search put-counted; output = search put-stored; memory = search rules }))
+    (λ c. record { count = search put_counted; output = search put_stored; memory = search rules }))

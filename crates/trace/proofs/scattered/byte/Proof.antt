@@ -1,5 +1,5 @@
 use borrow.Author.Rules.{rules}
-use Rattle.trace.proofs.Bytes.{byte_past, byte-here}
+use Rattle.trace.proofs.Bytes.{byte_past, byte_here}
 use Rattle.trace.proofs.scattered.byte.Statement.{statement}
 use Rattle.trace.proofs.scattered.byte.Tie as tie
 
@@ -10,4 +10,4 @@ byte-spec =
     (λ c. search byte_past)
     (λ c κs. search rules)
     (λ c κs. search rules)
-    (λ c. search byte-here))
+    (λ c. search byte_here))

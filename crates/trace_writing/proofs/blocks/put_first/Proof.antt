@@ -1,6 +1,6 @@
 -- `trace_writing::blocks::put_first` meets its contract. Assumes nothing.
 use borrow.Author.Rules.{rules}
-use Rattle.trace_writing.proofs.Putting.{first-put}
+use Rattle.trace_writing.proofs.Putting.{first_put}
 use Rattle.trace_writing.proofs.blocks.put_first.Statement.{statement}
 use Rattle.trace_writing.proofs.blocks.put_first.Tie as tie
 
@@ -30,7 +30,7 @@ put-first-spec =
     let part = store₁.before.before.before in
     let header = part.before in
     let blank = header.before in
-    first-put _ _ _ _ _ _ _ _ _ _ _ blank.blank.ensures header.header.ensures part.part.ensures store₁.store.ensures
+    first_put _ _ _ _ _ _ _ _ _ _ _ blank.blank.ensures header.header.ensures part.part.ensures store₁.store.ensures
     store₂.store2.ensures
     part₂.part2.ensures
     put.put.ensures))

@@ -2,7 +2,7 @@
 use Prim.Native.Nat.{◌-◌}
 use native.Mathlib.Omega.{arith}
 use borrow.Author.Rules.{rules}
-use Rattle.trace_writing.proofs.Putting.{Putting, putting-begins, putting-on, putting-length, putting-ends}
+use Rattle.trace_writing.proofs.Putting.{Putting, putting_begins, putting_on, putting_length, putting_ends}
 use Rattle.trace_writing.proofs.blocks.put_rest.Statement.{statement}
 use Rattle.trace_writing.proofs.blocks.put_rest.Tie as tie
 
@@ -16,7 +16,7 @@ loop-again : tie.Need-loop-preserved invariant-loop decreases-loop
 loop-again c =
     let put = c.before.before in
     let test = put.before.before.before in
-    putting-on _ _ _ _ _ _ _ test.before.loop.invariant test.loop-test.true put.before.part.ensures put.put.ensures
+    putting_on _ _ _ _ _ _ _ test.before.loop.invariant test.loop-test.true put.before.part.ensures put.put.ensures
 
 pub put-rest-spec : {M : Type 1} → statement M
 put-rest-spec =
@@ -24,7 +24,7 @@ put-rest-spec =
     (tie.spec
     invariant-loop
     decreases-loop
-    (λ c. search putting-begins)
+    (λ c. search putting_begins)
     (λ c. omega arith)
     (λ c. omega arith)
     (λ c. omega arith)
@@ -33,5 +33,5 @@ put-rest-spec =
     (λ c. omega arith)
     (λ c. omega arith)
     loop-again
-    (λ c. search putting-length)
-    (λ c. search putting-ends))
+    (λ c. search putting_length)
+    (λ c. search putting_ends))

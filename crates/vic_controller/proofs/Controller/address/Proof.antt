@@ -1,5 +1,5 @@
 use borrow.Author.Rules.{rules}
-use Rattle.vic_controller.proofs.Laws.{no-such-slot}
+use Rattle.vic_controller.proofs.Laws.{no_such_slot}
 use Rattle.vic_controller.proofs.Controller.address.Statement.{statement}
 use Rattle.vic_controller.proofs.Controller.address.Tie as tie
 
@@ -7,7 +7,7 @@ pub address_spec : {M : Type 1} → statement M
 address_spec =
     tie.close
     (tie.spec
-    (λ c. no-such-slot c.before.args.t1.addresses _ (search rules) c.if1.true)
+    (λ c. no_such_slot c.before.args.t1.addresses _ (search rules) c.if1.true)
     (λ c. search rules)
     (λ c. search rules)
     (λ c. search rules))

@@ -1,5 +1,5 @@
 use borrow.Author.Rules.{rules}
-use Rattle.vic_pair.proofs.Laws.{fiq-first, fiq-second}
+use Rattle.vic_pair.proofs.Laws.{fiq_first, fiq_second}
 use Rattle.vic_pair.proofs.Vics.fiq.Statement.{statement}
 use Rattle.vic_pair.proofs.Vics.fiq.Tie as tie
 
@@ -8,6 +8,6 @@ fiq-spec =
     tie.close
     (tie.spec
     (λ c κs. search rules)
-    (λ c. search fiq-first)
+    (λ c. search fiq_first)
     (λ c κs. search rules)
-    (λ c. search fiq-second))
+    (λ c. search fiq_second))
