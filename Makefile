@@ -1,5 +1,5 @@
 # Tockfeather: the targets are listed by `make help`.
-# Everything that is built stands below target/; nothing is downloaded.
+# What is built stands below target/, the prover's own work in crates/*/out/; nothing is downloaded.
 
 ORACLE = target/oracle/release
 WARNINGS = -std=c11 -O2 -Wall -Wextra -Werror
@@ -11,6 +11,10 @@ export TOCKFEATHER_LIB_DIR = $(CURDIR)/target/staticlib
 export TMPDIR := $(shell tools/scratch)
 # Scripts leave no compiled files beside them.
 export PYTHONDONTWRITEBYTECODE = 1
+# Proves and builds programs and static libraries. Behind a run of `rt ci` that passed, what it built is taken: PASSED names the file that
+# was touched when it began (tests/gate).
+PASSED =
+BUILD = tools/build $(if $(PASSED),--passed $(PASSED))
 
 .PHONY: help day replay capture test programs library host trial oracle outside fuzz clean
 
@@ -28,11 +32,11 @@ help:
 	@echo 'make benchmark   checks and frames a second against a plain C model and an earlier commit (docs/PERFORMANCE.md)'
 	@echo 'make benchmark-traces   its part about traces alone: reading and writing against plain C, replay against direct calls'
 	@echo 'make benchmark-captures   its part about captures alone: export and import against plain C'
-	@echo 'make clean       remove target/'
+	@echo 'make clean       remove target/ and the prover'"'"'s work in crates/*/out/'
 
 day:
-	@echo 'Proving and building the console; the first time this takes a few minutes.'
-	@tools/progress rt check bench
+	@echo 'Proving and building the console; the first time half a minute or more for each crate.'
+	@$(BUILD) bench
 	@mkdir -p target/day
 	@target/bin/bench < examples/day.txt > target/day/day.out
 	@tools/report examples/day.txt target/day/day.out --svg target/day/day.svg
@@ -40,15 +44,15 @@ day:
 	@echo 'The picture of the day is target/day/day.svg, the console'"'"'s own output target/day/day.out.'
 
 replay:
-	@echo 'Proving and building the console and the programs; the first time this takes a few minutes.'
-	@tools/progress rt check bench record replay
+	@echo 'Proving and building the console and the programs; the first time half a minute or more for each crate.'
+	@$(BUILD) bench record replay
 	@tools/recorded-day examples/recorded-day.txt target/replay
 
 # The day is recorded anew: its trace, its memory image and its capture lie side by side. A program that fails says so in its first
 # line, and its exit status does not.
 capture:
-	@echo 'Proving and building the programs; the first time this takes a few minutes.'
-	@tools/progress rt check record export_capture
+	@echo 'Proving and building the programs; the first time half a minute or more for each crate.'
+	@$(BUILD) record export_capture
 	@mkdir -p target/day
 	@target/bin/record target/day/recorded-day.trace target/day/recorded-day.memory < examples/recorded-day.txt | grep '^recorded '
 	@target/bin/export_capture target/day/recorded-day.trace target/day/recorded-day.memory target/day/recorded-day.pcap | grep '^exported '
@@ -59,10 +63,10 @@ test:
 	@tests/gate
 
 programs:
-	@tools/progress rt check bench verdict record replay export_capture import_capture
+	@$(BUILD) bench verdict record replay export_capture import_capture
 
 library:
-	@tools/progress rt staticlib tockfeather
+	@$(BUILD) tockfeather
 
 host: library
 	mkdir -p target/host
@@ -70,9 +74,7 @@ host: library
 
 # The functions on traces, captures and counters for the independent model and the benchmark to call.
 trial:
-	@tools/progress rt staticlib trace_trial
-	@tools/progress rt staticlib pcap_trial
-	@tools/progress rt staticlib counter_trial
+	@$(BUILD) trace_trial pcap_trial counter_trial
 
 oracle: library trial
 	cd oracle && cargo build --release --offline --quiet --features library,trace-library,capture-library,counter-library
@@ -157,6 +159,6 @@ fuzz: programs oracle
 	$(ORACLE)/compare-captures target/bin/export_capture target/bin/import_capture --seconds $(SECONDS_TO_RUN)
 
 clean:
-	rm -rf target
+	rm -rf target crates/*/out
 
 include benchmark/benchmark.mk

@@ -1,4 +1,6 @@
 // The console's calls that change the bench or what is lent, by name.
+#![tactic(auto)]
+
 ghost use Rattle.std.specs.Prelude.{◌≡◌};
 ghost use Rattle.words.specs.Words.{characters};
 ghost use Rattle.text.specs.Text.{written, put};

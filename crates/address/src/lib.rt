@@ -1,4 +1,6 @@
 // Addresses by themselves: their low bits, the words that lead to them, and whether two regions share a byte.
+#![tactic(auto)]
+
 ghost use Rattle.std.specs.Prelude.{◌≡◌};
 ghost use Rattle.address.specs.Address.{aligned, place_of, polls, apart};
 

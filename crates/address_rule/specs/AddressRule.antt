@@ -1,7 +1,7 @@
 -- The address rule: whether a frame is for this station, and why, by the frame's bytes and the filter registers.
 -- Assumes nothing.
 use Rattle.std.specs.Prelude.{ℕ, ◌%◌, Bool, List, [], ◌∷◌, eqb, ltb, length, get_or, take}
-use Rattle.rules.specs.Choice.{if◌then◌else◌}
+use Rattle.std.specs.Prelude.{if◌then◌else◌}
 use Rattle.fcs.specs.Bytes.{same}
 use Rattle.hash.specs.Hash.{hash_accepts}
 use Rattle.reason.specs.declared.Reason.{Reason}

@@ -1,4 +1,6 @@
 // The address rule: why a frame is taken, by its destination and the filter registers.
+#![tactic(auto)]
+
 ghost use Rattle.std.specs.Prelude.{◌≡◌};
 ghost use Rattle.fcs.specs.Bytes.{same};
 ghost use Rattle.reason.specs.Reason.{reason_number};

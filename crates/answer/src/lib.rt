@@ -1,6 +1,8 @@
 // The numbered results of the bench (01, "Numbered results"; from 16 on 02).
 
 // Done.
+#![tactic(auto)]
+
 pub const DONE: u32 = 0;
 
 // Window not allowed.

@@ -1,6 +1,6 @@
 -- Bytes put behind those before them, if there is room. So the lists of docs/TRACE.md and docs/CAPTURE.md are made. Assumes nothing.
 use Rattle.std.specs.Prelude.{ℕ, ◌+◌, List, ltb, length}
-use Rattle.rules.specs.Choice.{if◌then◌else◌}
+use Rattle.std.specs.Prelude.{if◌then◌else◌}
 use Rattle.memory.specs.Memory.{store}
 
 -- where the bytes end, and the list

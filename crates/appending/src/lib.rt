@@ -1,5 +1,7 @@
 // Bytes put into a list behind its first `at` ones, in two pieces one behind the other. The answer is where they end. Where they have no
 // room it is 0, and the list is as it was; so is the answer for no bytes at the front.
+#![tactic(auto)]
+
 ghost use Rattle.std.specs.Prelude.{◌≡◌, ◌++◌};
 ghost use Rattle.appending.specs.Put.{put_of, put};
 

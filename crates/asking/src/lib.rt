@@ -1,4 +1,6 @@
 // The console's calls that change nothing, by name.
+#![tactic(auto)]
+
 ghost use Rattle.std.specs.Prelude.{◌≡◌};
 ghost use Rattle.text.specs.Text.{written, put};
 ghost use Rattle.commands.specs.Answers.{answers, given, tells};

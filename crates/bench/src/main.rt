@@ -1,7 +1,10 @@
 // The bench console. It reads calls from standard input until its end, one a line, and writes what crate board answers:
 // docs/CONSOLE.md.
+#![tactic(auto)]
+
 use board::{Board, BoardTold};
 use lines::Input;
+use std::io::Read;
 
 // The greatest window, and eight bytes to lend too much.
 const MEMORY: usize = 65544;
@@ -16,21 +19,21 @@ const LONGEST: usize = 131136;
 const MOST: usize = TEXT - LONGEST;
 
 // Writes what waits where it is more than `most`, and answers how much waits then.
-fn write_past(most: usize, text: &[u8; TEXT], waiting: usize) -> usize {
+fn write_past<P: Print>(rt: &P, most: usize, text: &[u8; TEXT], waiting: usize) -> usize {
     if waiting <= most {
         return waiting;
     }
-    io::write_all(libc::STDOUT_FILENO, memory::part(text, 0, waiting));
+    let _ = rt.write_all(memory::part(text, 0, waiting));
     0
 }
 
 // Writes what waits. Behind a line, where its answer might have no room; else all of it, before the next chunk is read: so
 // whoever types lines sees the answer of each before the next read.
-fn written(input: Input, text: &[u8; TEXT], waiting: usize) -> usize {
+fn written<P: Print>(rt: &P, input: Input, text: &[u8; TEXT], waiting: usize) -> usize {
     if input.ended {
-        return write_past(MOST, text, waiting);
+        return write_past(rt, MOST, text, waiting);
     }
-    write_past(0, text, waiting)
+    write_past(rt, 0, text, waiting)
 }
 
 // Answers the line that a part of the input ended, where it ended one.
@@ -59,7 +62,9 @@ fn answered(
 
 // Answers each line of the input, and gives how much of the text waits to be written at its end. What comes before the
 // first part and after the last is left to the caller.
-fn answer_all(
+fn answer_all<P: Print, R: Read>(
+    rt: &P,
+    from: &mut R,
     mut told: BoardTold,
     mut input: Input,
     memory: &mut [u8; MEMORY],
@@ -69,14 +74,14 @@ fn answer_all(
 ) -> usize {
     while input.parts > 0 {
         input = lines::take(input, chunk, line);
-        let waiting = written(input, text, told.end);
-        input = lines::more(input, chunk);
+        let waiting = written(rt, input, text, told.end);
+        input = lines::more(input, from, chunk);
         told = answered(told.board, input, waiting, memory, line, text);
     }
     told.end
 }
 
-fn main() {
+fn main(rt: HostRuntime) {
     let mut memory = [0u8; MEMORY];
     let mut chunk = [0u8; lines::CHUNK];
     let mut line = [0u8; lines::LINE];
@@ -86,6 +91,16 @@ fn main() {
         end: 0,
     };
     let input = lines::begin();
-    let end = answer_all(told, input, &mut memory, &mut chunk, &mut line, &mut text);
-    write_past(0, &text, end);
+    let mut from = rt.reader();
+    let end = answer_all(
+        &rt,
+        &mut from,
+        told,
+        input,
+        &mut memory,
+        &mut chunk,
+        &mut line,
+        &mut text,
+    );
+    write_past(&rt, 0, &text, end);
 }

@@ -1,7 +1,7 @@
 -- 02, Wish 4: what is wrong with a block by itself, "tested in the order length of block, number, check, used length, zero fill";
 -- "Each reason .. takes its own next number from 17 as named". Assumes nothing.
 use Rattle.std.specs.Prelude.{ℕ, Bool, true, not, ◌&&◌, ◌||◌, List, [], ◌∷◌, eqb, ltb, length}
-use Rattle.rules.specs.Choice.{if◌then◌else◌}
+use Rattle.std.specs.Prelude.{if◌then◌else◌}
 use Rattle.block.specs.Fields.{block_number, used_length, unused_data, stored_check, check_of}
 
 -- "used length (1 to 504)"; "only the last may be part-filled"

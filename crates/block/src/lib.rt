@@ -1,5 +1,7 @@
 // The block of 512 bytes that traces are made of (02, Wish 4): its fields, its faults in their order, and a block made of its
 // number and its used data.
+#![tactic(auto)]
+
 pub mod made;
 mod sums;
 

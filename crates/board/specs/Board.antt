@@ -1,6 +1,6 @@
 -- docs/CONSOLE.md: a console line answered with the device and the interrupt controllers side by side. Assumes nothing.
 use Rattle.std.specs.Prelude.{ℕ, Bool, List}
-use Rattle.rules.specs.Choice.{if◌then◌else◌}
+use Rattle.std.specs.Prelude.{if◌then◌else◌}
 use Rattle.enet.specs.Access.{interrupt_line}
 use Rattle.script.specs.Calls.{call_of}
 use Rattle.kinds.specs.Kinds.{renews}

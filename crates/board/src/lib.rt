@@ -1,5 +1,7 @@
 // The bench console with the device and the interrupt controllers side by side (docs/CONSOLE.md): one line is answered by one line, in
 // a buffer that the caller lends.
+#![tactic(auto)]
+
 ghost use Rattle.std.specs.Prelude.{◌≡◌};
 ghost use Rattle.board.specs.Board.{reset, called, renewed, elsewhere, answer, given, tells};
 
@@ -9,14 +11,14 @@ use vic_script::{VicCall, VicLine};
 use words::{first, is};
 
 // The console, with the device in it, and the controllers.
-#[derive(Drop)]
+#[derive(Clone, Copy)]
 pub struct Board {
     pub console: Console,
     pub controllers: Controllers,
 }
 
 // The next board, and where the text in the lent buffer ends.
-#[derive(Drop)]
+#[derive(Clone, Copy)]
 pub struct BoardTold {
     pub board: Board,
     pub end: usize,

@@ -1,7 +1,7 @@
 -- 02, Wish 1, "A burst in one call": "a call that takes one lent store of bytes and a lent list of start and length pairs, at
 -- most 64, and receives them in order. Answers go into a lent list of numbers." Assumes nothing.
 use Rattle.std.specs.Prelude.{ℕ, Bool, not, ◌||◌, List, [], ◌∷◌, eqb, ltb, length}
-use Rattle.rules.specs.Choice.{if◌then◌else◌}
+use Rattle.std.specs.Prelude.{if◌then◌else◌}
 use Rattle.enet.specs.declared.Enet.{Enet}
 use Rattle.pair.specs.declared.Pair.{Pair}
 use Rattle.pair.specs.Pair.{pair, received}

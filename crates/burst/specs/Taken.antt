@@ -1,7 +1,7 @@
 -- 02, Wish 1: "Demand 3 counts the frames inside: a burst stands in its list as one receive for each pair inside the store, a
 -- refused burst as none." Assumes nothing.
 use Rattle.std.specs.Prelude.{ℕ, List, [], ◌∷◌, length}
-use Rattle.rules.specs.Choice.{if◌then◌else◌}
+use Rattle.std.specs.Prelude.{if◌then◌else◌}
 use Rattle.pair.specs.declared.Pair.{Pair}
 use Rattle.pair.specs.Pair.{passes, bytes_of}
 use Rattle.burst.specs.Burst.{refuses, pairs_of, uneven}

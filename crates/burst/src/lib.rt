@@ -1,6 +1,8 @@
 // A burst: the frames of one lent store, received in order in one call (02, Wish 1). Starts and lengths are two lists of
 // numbers; `burst_pairs` has the form over a list of pairs. The call takes the device and gives back the next one, as the
 // methods of `Enet` do, and stands above them since it is made of single receives.
+#![tactic(auto)]
+
 ghost use Rattle.std.specs.Prelude.{◌≡◌, length};
 ghost use Rattle.pair.specs.Turn.{bursting};
 ghost use Rattle.burst.specs.Burst.{refuses, pairs_of, burst_of};

@@ -1,6 +1,6 @@
 -- How the walk over a list of pairs begins: with the call's number, and with as many turns as it will make. Assumes nothing.
 use Rattle.std.specs.Prelude.{ℕ}
-use Rattle.rules.specs.Choice.{if◌then◌else◌}
+use Rattle.std.specs.Prelude.{if◌then◌else◌}
 use Rattle.enet.specs.declared.Enet.{Enet}
 use Rattle.enet.specs.declared.Answered.{Answered}
 use Rattle.burst.specs.Burst.{refuses}

@@ -1,6 +1,7 @@
 // A burst over a lent list of pairs (01, "one thin function walks a lent slice of structs"; 02, Wish 1): each pair is taken
-// apart and handed to `pair::turn`, as the form over two lists does. A caller of a function over a slice of structs is proved by
-// hand too, so other code calls `burst::burst`.
+// apart and handed to `pair::turn`, as the form over two lists does. Other code calls `burst::burst`.
+#![tactic(auto)]
+
 ghost use Rattle.std.specs.Prelude.{◌≡◌};
 ghost use Rattle.pair.specs.Turn.{bursting};
 ghost use Rattle.burst.specs.Burst.{burst};
@@ -10,7 +11,7 @@ use enet::{Answered, Enet};
 use pair::Pair;
 
 // Everything that branches stands in the first two functions: a refused call has its number before the loop, and makes no turn.
-// So the function over the slice, whose code has to be gone through by hand, has no branch but its loop's.
+// So the function over the slice has no branch but its loop's.
 
 // The call's number, beside the device.
 fn begun(pairs: usize, answers: usize, device: Enet) -> Answered

@@ -1,5 +1,7 @@
 // A burst beside single receives, for C to time (benchmark/). They stand in a library of their own: with more callers of the
 // device's receive in one library the compiler builds it in another way, and `speed` would be measured anew.
+#![tactic(auto)]
+
 ghost use Rattle.std.specs.Prelude.{◌≡◌};
 ghost use Rattle.burst.specs.Burst.{burst_of};
 ghost use Rattle.timing.specs.Timing.{bench, window_of, received};

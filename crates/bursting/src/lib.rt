@@ -1,4 +1,6 @@
 // The call of the device that takes a burst of frames into the memory that it is lent. It writes its line.
+#![tactic(auto)]
+
 ghost use Rattle.std.specs.Prelude.{◌≡◌, ◌≤◌, length, take, replicate};
 ghost use Rattle.words.specs.Words.{first, rest};
 ghost use Rattle.forms.specs.Pairs.{named};

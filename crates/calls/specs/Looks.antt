@@ -1,6 +1,6 @@
 -- The public calls that only look: the bench stays as it is. What each of them sees, by its own definition. Assumes nothing.
 use Rattle.std.specs.Prelude.{ℕ, Bool, List, []}
-use Rattle.rules.specs.Choice.{if◌then◌else◌}
+use Rattle.std.specs.Prelude.{if◌then◌else◌}
 use Rattle.ring.specs.Ring.{sound_ring}
 use Rattle.reading.specs.Reading.{reading_number, reading}
 use Rattle.enet.specs.declared.Enet.{Enet}

@@ -1,1 +1,3 @@
 // Every public call on the bench as one type and one function: specs/. No code.
+
+#![tactic(auto)]

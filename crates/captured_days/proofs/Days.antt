@@ -1,27 +1,25 @@
 -- The capture of a day has its delivered and sent frames, and no others. Assumes nothing.
 use Prim.Native.Nat.{ℕ, suc, ◌+◌, ◌≤◌, ◌<◌}
 use mathlib.Core.Path.{◌≡◌, refl, sym, ap, ◌∙◌}
-use mathlib.Core.Bool.{Bool, true, false}
+use mathlib.Core.Bool.{true, false}
 use mathlib.Core.List.{List, [], ◌∷◌, ◌++◌, append-nil, append_assoc}
 use native.Mathlib.Omega.{arith}
 use native.Mathlib.Nat.{zero-add}
 use lib.Dec.{eqb, ltb}
 use lib.ListN.{length, take, length-append}
 use borrow.Author.Tests.{ne_eqb, lt-ltb, le-ltb, ltb-true, ltb-false}
-use Rattle.rules.specs.Choice.{if◌then◌else◌}
+use Rattle.std.specs.Prelude.{if◌then◌else◌}
 use Rattle.rules.proofs.Choices.{by_bool}
 use Rattle.memory.specs.Memory.{word_bytes, store}
 use Rattle.memory.proofs.Stores.{store_append, length_store}
 use Rattle.appending.specs.Put.{put}
 use Rattle.event.specs.Event.{Event, register_write, grant, frame, send}
-use Rattle.calls.specs.Calls.{Bench}
-use Rattle.playback.specs.Playing.{Acting, bench_of, act, play}
-use Rattle.enet.specs.Device.{new}
+use Rattle.playback.specs.Playing.{Acting, act, play}
 use Rattle.pcap.specs.Capture.{Captured}
 use Rattle.pcap_list.specs.Entries.{entry_head, entry_bytes, list_bytes}
 use Rattle.captured_days.specs.Captured.{if_done, captured_of, captured_from}
-use Rattle.capturing.specs.Capturing.{timed, Listing, behind_put, keep, Capturing, keep_of, step, capture_all, begun}
-use Rattle.captured_days.specs.Claims.{Captures, CapturesAll}
+use Rattle.capturing.specs.Capturing.{Listing, behind_put, keep, Capturing, keep_of, step, capture_all, begun}
+use Rattle.captured_days.specs.Claims.{CapturesAll}
 
 -- ---- the day that is played
 

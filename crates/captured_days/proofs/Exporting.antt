@@ -1,12 +1,10 @@
 -- The list of a day is exported. Assumes nothing.
-use Prim.Native.Nat.{ℕ, suc, ◌+◌, ◌/◌, ◌%◌, ◌^◌, ◌≤◌, ◌<◌}
-use mathlib.Core.Path.{◌≡◌, refl, ◌∙◌}
-use mathlib.Core.Bool.{true, false}
+use Prim.Native.Nat.{ℕ, suc, ◌+◌, ◌^◌, ◌≤◌, ◌<◌}
+use mathlib.Core.Path.{◌≡◌, ◌∙◌}
 use mathlib.Core.List.{List, [], ◌∷◌, ◌++◌}
 use native.Mathlib.Omega.{arith}
 use lib.Dec.{eqb}
 use lib.ListN.{length, take}
-use Rattle.rules.specs.Choice.{if◌then◌else◌, ◌otherwise◌}
 use Rattle.rules.proofs.Choices.{by_bool, neither}
 use Rattle.event.specs.Event.{Event, register_write, grant, frame, send}
 use Rattle.calls.specs.Calls.{Bench}

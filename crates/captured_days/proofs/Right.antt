@@ -1,15 +1,14 @@
 -- A frame that is delivered, and one that is sent, is whole and has a right check sequence. Assumes nothing.
 use Prim.Native.Nat.{ℕ, suc, ◌≤◌}
-use mathlib.Core.Path.{◌≡◌, refl, sym, ap, ◌∙◌}
-use mathlib.Core.Bool.{Bool, true, false, not}
+use mathlib.Core.Path.{◌≡◌, refl, sym}
+use mathlib.Core.Bool.{Bool, false, not}
 use mathlib.Core.List.{List, [], ◌∷◌, ◌++◌}
 use native.Mathlib.Omega.{arith}
-use lib.Dec.{eqb, ltb, leb}
+use lib.Dec.{eqb, ltb}
 use lib.ListN.{length, take, drop, length-take}
 use borrow.Author.Tests.{eqb-true, ltb-false, le-leb}
-use Rattle.rules.specs.Choice.{if◌then◌else◌, ◌otherwise◌}
+use Rattle.std.specs.Prelude.{if◌then◌else◌}
 use Rattle.rules.proofs.Choices.{by_bool, passed, neither, or_parts, and_yes, if_no, not_no}
-use Rattle.memory.specs.Memory.{store}
 use Rattle.memory.proofs.Stores.{part_back}
 use Rattle.fcs.specs.CheckSequence.{check_right}
 use Rattle.fcs.proofs.Meaning.{closed_message_right}
@@ -32,10 +31,9 @@ use Rattle.enet.specs.Send.{Sending, send}
 use Rattle.enet.proofs.Ways.{by_send}
 use Rattle.event.specs.Event.{Event, register_write, grant, frame, send as a_send}
 use Rattle.calls.specs.Calls.{Bench}
-use Rattle.playback.specs.Playing.{Acting, act}
+use Rattle.playback.specs.Playing.{act}
 use Rattle.pcap.specs.Capture.{Captured}
 use Rattle.pcap_export.specs.Export.{frame_fault, first_wrong}
-use Rattle.capturing.specs.Capturing.{timed}
 use Rattle.captured_days.specs.Captured.{if_done, captured_of, captured_from}
 use Rattle.captured_days.specs.Exported.{FramesRight}
 

@@ -1,6 +1,6 @@
 -- The frames of a recorded day that a capture of it has (docs/CAPTURE.md, "export_capture"). Assumes nothing.
 use Rattle.std.specs.Prelude.{ℕ, suc, List, [], ◌∷◌, ◌++◌, eqb, take}
-use Rattle.rules.specs.Choice.{if◌then◌else◌}
+use Rattle.std.specs.Prelude.{if◌then◌else◌}
 use Rattle.event.specs.Event.{Event, register_write, grant, frame, send}
 use Rattle.calls.specs.Calls.{Bench}
 use Rattle.playback.specs.Playing.{Acting, act}

@@ -1,13 +1,12 @@
 -- The list of frames: the ways out of the code that puts one into it. Assumes nothing.
 use Prim.Native.Nat.{ℕ}
 use mathlib.Core.Path.{◌≡◌, refl, ap, ◌∙◌}
-use mathlib.Core.Bool.{Bool, true, false}
+use mathlib.Core.Bool.{true, false}
 use mathlib.Core.List.{List}
 use lib.ListN.{take, drop}
 use borrow.Author.Tests.{eq-eqb, ne_eqb}
-use Rattle.rules.specs.Choice.{if◌then◌else◌}
 use Rattle.rules.proofs.Choices.{if_yes, if_no}
-use Rattle.appending.specs.Put.{Put, put_of, put}
+use Rattle.appending.specs.Put.{put_of, put}
 use Rattle.event.specs.declared.Found.{Found}
 use Rattle.event.specs.declared.Found.TheVariants.{RegisterWrite, Grant, Frame, Send, Cut, NoEvent}
 use Rattle.pcap_list.specs.Entries.{entry_bytes}

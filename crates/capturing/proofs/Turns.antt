@@ -17,12 +17,12 @@ use Rattle.event.proofs.Laws.{size_room}
 use Rattle.enet.specs.declared.Answered.{Answered}
 use Rattle.enet.specs.Device.{new}
 use Rattle.playback.specs.declared.Acted.{Acted}
-use Rattle.playback.specs.Playing.{Acting, bench_of, acting, act, act_as}
-use Rattle.playback.proofs.Laws.{act_at, frame_there}
+use Rattle.playback.specs.Playing.{bench_of, acting, act_as}
+use Rattle.playback.proofs.Laws.{frame_there}
 use Rattle.playback.proofs.Turns.{walk_ends}
 use Rattle.capturing.specs.declared.Kept.{Kept}
 use Rattle.capturing.specs.declared.Day.{Day}
-use Rattle.capturing.specs.Capturing.{Listing, kept, Capturing, capturing, keep_of, keep_found, step, capture_all, next, begun}
+use Rattle.capturing.specs.Capturing.{kept, Capturing, capturing, keep_found, step, capture_all, next, begun}
 
 -- ---- one event
 

@@ -1,6 +1,6 @@
 -- A recorded day as the code captures it, event by event. Assumes nothing.
 use Rattle.std.specs.Prelude.{ℕ, suc, ◌/◌, ◌%◌, Bool, true, false, List, [], ◌∷◌, eqb, take, drop}
-use Rattle.rules.specs.Choice.{if◌then◌else◌}
+use Rattle.std.specs.Prelude.{if◌then◌else◌}
 use Rattle.appending.specs.Put.{Put, put}
 use Rattle.event.specs.Event.{Event, register_write, grant, frame, send}
 use Rattle.event.specs.declared.Found.{Found}

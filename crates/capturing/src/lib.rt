@@ -1,5 +1,7 @@
 // A recorded day played, with the frames that it delivers and sends put into a list of frames with their times (docs/CAPTURE.md,
 // "export_capture").
+#![tactic(auto)]
+
 ghost use Rattle.std.specs.Prelude.{◌≡◌, drop};
 ghost use Rattle.event.specs.Front.{front, found};
 ghost use Rattle.event.specs.Walk.{walk};
@@ -9,14 +11,14 @@ use enet::Enet;
 use event::Found;
 
 // How far a list is: the bytes of its entries, and whether one had no room. Then nothing is put behind them any more.
-#[derive(Drop)]
+#[derive(Clone, Copy)]
 pub struct Kept {
     pub bytes: usize,
     pub full: bool,
 }
 
 // How far a day is: the device, and the list.
-#[derive(Drop)]
+#[derive(Clone, Copy)]
 pub struct Day {
     pub device: Enet,
     pub kept: Kept,

@@ -1,6 +1,6 @@
 -- 01, "Window and descriptor": the buffer of a descriptor. Assumes nothing.
 use Rattle.std.specs.Prelude.{ℕ, Bool, false, not, ◌||◌, eqb, ltb}
-use Rattle.rules.specs.Choice.{if◌then◌else◌}
+use Rattle.std.specs.Prelude.{if◌then◌else◌}
 use Rattle.address.specs.Address.{apart, aligned}
 use Rattle.window.specs.Window.{in_window}
 

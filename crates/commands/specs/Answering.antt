@@ -1,6 +1,6 @@
 -- The answer to a line. Assumes nothing.
 use Rattle.std.specs.Prelude.{ℕ, ◌+◌, ◌%◌, ◌^◌, List, []}
-use Rattle.rules.specs.Choice.{if◌then◌else◌}
+use Rattle.std.specs.Prelude.{if◌then◌else◌}
 use Rattle.enet.specs.Device.{reset as reset_bench}
 use Rattle.words.specs.Words.{first, rest}
 use Rattle.forms.specs.Pairs.{named}

@@ -1,7 +1,7 @@
 -- The commands of docs/CONSOLE.md, in its order, each under its row of the table: what it writes, and what it does.
 -- Assumes nothing.
 use Rattle.std.specs.Prelude.{ℕ, min, List, [], ◌∷◌, ◌++◌, length, take, drop, replicate}
-use Rattle.rules.specs.Choice.{if◌then◌else◌}
+use Rattle.std.specs.Prelude.{if◌then◌else◌}
 use Rattle.memory.specs.Memory.{store}
 use Rattle.fcs.specs.CheckSequence.{check_number}
 use Rattle.window.specs.Window.{in_window, offset}

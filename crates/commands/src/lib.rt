@@ -1,13 +1,15 @@
 // What the bench console's commands do and write, as definitions (specs/, in the order of docs/CONSOLE.md), the console's
 // state, its next state, and how much of a buffer a command has. The code stands in the crates above: queries, peeking, poking,
 // lending, outgoing, bursting, asking, acting, console.
+#![tactic(auto)]
+
 ghost use Rattle.std.specs.Prelude.{◌≡◌, min};
 ghost use Rattle.commands.specs.Answers.{with_device};
 
 use enet::Enet;
 
 // The device, how much of the memory is lent to it, and how many lines have ended.
-#[derive(Drop)]
+#[derive(Clone, Copy)]
 pub struct Console {
     pub device: Enet,
     pub lent: usize,
@@ -15,7 +17,7 @@ pub struct Console {
 }
 
 // The next console, and where the text in the lent buffer ends.
-#[derive(Drop)]
+#[derive(Clone, Copy)]
 pub struct Told {
     pub console: Console,
     pub end: usize,

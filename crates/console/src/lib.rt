@@ -1,4 +1,6 @@
 // The bench console (docs/CONSOLE.md): one line is answered by one line, in a buffer that the caller lends.
+#![tactic(auto)]
+
 ghost use Rattle.std.specs.Prelude.{◌≡◌};
 ghost use Rattle.commands.specs.Answers.{given, tells};
 ghost use Rattle.commands.specs.Answering.{reset, answer_to, counted, answer};

@@ -1,6 +1,8 @@
 // A device whose counters start anywhere, for programs in other languages (oracle/): so their stop is tried. Each function plays the
 // events of a list of bytes and then makes a call that counts more than one frame; it puts what it found, as a list of numbers, at
 // the front of `found`.
+#![tactic(auto)]
+
 ghost use Rattle.std.specs.Prelude.{◌≡◌, []};
 ghost use Rattle.counters.specs.Counters.{made};
 ghost use Rattle.enet.specs.Run.{running};

@@ -1,7 +1,7 @@
 -- 02, Wish 9: "Add frames delivered, lost and sent to the device's state, each stopping at 4,294,967,295", and the count of its
 -- ticks. They are no registers: no offset reads them, and of writes only that of 0 to the time-out clears the count. Assumes nothing.
 use Rattle.std.specs.Prelude.{ℕ, ◌+◌, eqb, ltb}
-use Rattle.rules.specs.Choice.{if◌then◌else◌}
+use Rattle.std.specs.Prelude.{if◌then◌else◌}
 use Rattle.counters.specs.declared.Counters.{Counters}
 
 -- the counters, part by part

@@ -1,9 +1,11 @@
 // The counters of the device (02, Wish 9): frames delivered, lost and sent, and the count of its ticks.
+#![tactic(auto)]
+
 ghost use Rattle.std.specs.Prelude.{◌≡◌};
 ghost use Rattle.counters.specs.Counters.{reset, with_ticks, one_more, after_receive, after_send};
 
 // Frames delivered, lost and sent, and the ticks in a row at which a send was stalled.
-#[derive(Drop)]
+#[derive(Clone, Copy)]
 pub struct Counters {
     pub delivered: u32,
     pub lost: u32,

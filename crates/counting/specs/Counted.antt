@@ -1,6 +1,6 @@
 -- 02, Wish 9: "Below the stop, each counter equals the events in the history since reset." Assumes nothing.
 use Rattle.std.specs.Prelude.{ℕ, ◌<◌, ◌≡◌, List, ltb}
-use Rattle.rules.specs.Choice.{if◌then◌else◌}
+use Rattle.std.specs.Prelude.{if◌then◌else◌}
 use Rattle.counters.specs.declared.Counters.{Counters}
 use Rattle.counters.specs.Counters.{stop}
 use Rattle.enet.specs.declared.Enet.{Enet}

@@ -1,6 +1,6 @@
 -- 02, Wish 9: "the events in the history since reset", of every list of calls. Assumes nothing.
 use Rattle.std.specs.Prelude.{ℕ, zero, suc, ◌+◌, List, [], ◌∷◌, eqb}
-use Rattle.rules.specs.Choice.{if◌then◌else◌}
+use Rattle.std.specs.Prelude.{if◌then◌else◌}
 use Rattle.enet.specs.declared.Enet.{Enet}
 use Rattle.calls.specs.Calls.{Bench, Call, looks, register_write, grant_call, receive_call, burst_call, send_call, step_run, tick_call, call}
 use Rattle.outputs.specs.Runs.{Stand, begins, single, further}

@@ -1,7 +1,7 @@
 -- 02, Wish 9, of a recorded day: a replay counts each frame. Its counters are the frames among its events by their answers. Assumes
 -- nothing.
 use Rattle.std.specs.Prelude.{ℕ, ◌+◌, ◌≡◌, List, [], ◌∷◌, eqb, take}
-use Rattle.rules.specs.Choice.{if◌then◌else◌}
+use Rattle.std.specs.Prelude.{if◌then◌else◌}
 use Rattle.counters.specs.declared.Counters.{Counters}
 use Rattle.event.specs.Event.{Event, register_write, grant, frame, send}
 use Rattle.event.specs.Walk.{walk}

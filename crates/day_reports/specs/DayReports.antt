@@ -1,7 +1,7 @@
 -- The lines of a recorded day that the console has none of its own for (docs/TRACE.md), and the line of an event, which is the
 -- console's. Assumes nothing.
 use Rattle.std.specs.Prelude.{ℕ, List, [], ◌++◌, leb}
-use Rattle.rules.specs.Choice.{if◌then◌else◌}
+use Rattle.std.specs.Prelude.{if◌then◌else◌}
 use Rattle.words.specs.Words.{characters}
 use Rattle.fields.specs.Fields.{number, value}
 use Rattle.replies.specs.Replies.{newline, numbered}

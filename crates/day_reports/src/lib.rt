@@ -1,4 +1,6 @@
 // The lines that tell of a recorded day (docs/TRACE.md).
+#![tactic(auto)]
+
 ghost use Rattle.std.specs.Prelude.{◌≡◌};
 ghost use Rattle.text.specs.Text.{written, put};
 ghost use Rattle.day_reports.specs.DayReports.{placed, counted, refusal_says, event_says};

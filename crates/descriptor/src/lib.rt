@@ -1,5 +1,7 @@
 // The first three words of a descriptor, on lent memory: control, start address, next descriptor. Each function is total:
 // a byte past the end of the lent memory reads 0, and an address below the base counts as the base.
+#![tactic(auto)]
+
 ghost use Rattle.std.specs.Prelude.{◌≡◌};
 ghost use Rattle.address.specs.Address.{aligned};
 ghost use Rattle.descriptor.specs.Descriptor.{count, next_enabled, start, next_word, next};

@@ -4,7 +4,7 @@ use Rattle.registers.specs.declared.Found.{Found}
 use Rattle.registers.specs.declared.Change.{Change}
 use Rattle.registers.specs.Registers as registers
 use Rattle.registers.specs.Access as access
-use Rattle.register_write.specs.Write as register_write_lem
+use Rattle.register_write.specs.Write as register_write
 use Rattle.ticking.specs.Tick.{after_write}
 use Rattle.enet.specs.declared.Enet.{Enet}
 use Rattle.enet.specs.declared.Answered.{Answered}
@@ -24,7 +24,7 @@ of_change d offset c =
     record { number = c.number; device = with_ticks (with_registers d c.registers) ticks }
 
 unfoldable pub write : Enet → ℕ → ℕ → Answered
-write d offset v = of_change d offset (register_write_lem.write d.registers offset v)
+write d offset v = of_change d offset (register_write.write d.registers offset v)
 
 abbrev pub interrupt_line : Enet → Bool
 interrupt_line d = registers.interrupt_line d.registers

@@ -1,7 +1,7 @@
 -- 01, "Registers": one of the two DMA engines, with its start register, its next-descriptor register, whether it runs, its place
 -- in the chain, and, by 02, Wish 5, whether polling is enabled for that place. Assumes nothing.
 use Rattle.std.specs.Prelude.{ℕ, Bool, false}
-use Rattle.rules.specs.Choice.{if◌then◌else◌}
+use Rattle.std.specs.Prelude.{if◌then◌else◌}
 use Rattle.address.specs.Address.{place_of, polls}
 use Rattle.engine.specs.declared.Engine.{Engine}
 

@@ -1,10 +1,12 @@
 // One of the two DMA engines of the device.
+#![tactic(auto)]
+
 ghost use Rattle.std.specs.Prelude.{◌≡◌};
 ghost use Rattle.engine.specs.Engine.{led_to, engine_reset, stopped, not_granted};
 
 // Its start register, its next-descriptor register, whether it runs, its place in the chain, and whether polling is enabled for
 // that place.
-#[derive(Drop)]
+#[derive(Clone, Copy)]
 pub struct Engine {
     pub start: u32,
     pub next: u32,

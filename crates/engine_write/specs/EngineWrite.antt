@@ -1,7 +1,7 @@
 -- 01, "Registers": the two registers of an engine written. Bit positions are chapter 8's (docs/REGISTERS.md). Assumes nothing.
 use Rattle.std.specs.Prelude.{ℕ, Bool, true, not}
 use Rattle.rules.specs.Bit.{bit}
-use Rattle.rules.specs.Choice.{if◌then◌else◌}
+use Rattle.std.specs.Prelude.{if◌then◌else◌}
 use Rattle.engine.specs.declared.Engine.{Engine}
 use Rattle.engine.specs.Engine.{with_start, with_next, with_running, led_to, stopped}
 

@@ -1,4 +1,6 @@
 // The two registers of an engine written: the start write, and the next-descriptor write.
+#![tactic(auto)]
+
 ghost use Rattle.std.specs.Prelude.{◌≡◌};
 ghost use Rattle.engine_write.specs.EngineWrite.{start_written, next_written};
 

@@ -1,7 +1,7 @@
 -- 02, Wish 4: what stands at the front of a string of bytes. "A byte no event can have there", and "a cut event", are no event.
 -- Assumes nothing.
 use Rattle.std.specs.Prelude.{ℕ, ◌+◌, List, eqb, ltb, length, get_or, take, drop}
-use Rattle.rules.specs.Choice.{if◌then◌else◌}
+use Rattle.std.specs.Prelude.{if◌then◌else◌}
 use Rattle.memory.specs.Memory.{word}
 use Rattle.event.specs.Event.{Event, register_write, grant, frame, send}
 use Rattle.event.specs.declared.Found.{Found}

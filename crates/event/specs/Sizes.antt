@@ -1,7 +1,7 @@
 -- How many bytes the event at the front of a string has, told by its first byte, the four behind it, and how many bytes there
 -- are. So it can be told of a string that does not lie in one piece. Assumes nothing.
 use Rattle.std.specs.Prelude.{ℕ, ◌+◌, Bool, not, ◌&&◌, eqb, ltb, leb}
-use Rattle.rules.specs.Choice.{if◌then◌else◌}
+use Rattle.std.specs.Prelude.{if◌then◌else◌}
 use Rattle.event.specs.Event.{size}
 use Rattle.event.specs.Front.{Front, whole, cut, no_event}
 use Rattle.event.specs.declared.Found.{Found}

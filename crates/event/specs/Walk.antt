@@ -1,6 +1,6 @@
 -- 02, Wish 4: the events of a string of bytes, one behind the other, and how it ends. Assumes nothing.
 use Rattle.std.specs.Prelude.{ℕ, zero, suc, List, [], ◌∷◌, eqb, length, drop}
-use Rattle.rules.specs.Choice.{if◌then◌else◌}
+use Rattle.std.specs.Prelude.{if◌then◌else◌}
 use Rattle.event.specs.Event.{Event, size, sizes}
 use Rattle.event.specs.Front.{Front, whole, cut, no_event, front}
 use Rattle.event.specs.Sizes.{begins}

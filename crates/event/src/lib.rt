@@ -1,5 +1,7 @@
 // The events of a recorded day, as bytes (02, Wish 4; docs/TRACE.md): one event at a place of an event list, its size, and a walk
 // along the list.
+#![tactic(auto)]
+
 ghost use Rattle.std.specs.Prelude.{◌≡◌, drop};
 ghost use Rattle.event.specs.Front.{front, found};
 ghost use Rattle.event.specs.Sizes.{begins, within, size_by, size_of, none_by};
@@ -7,7 +9,7 @@ ghost use Rattle.event.specs.Walk.{ending_by, walk, counted};
 
 // What stands at a place of an event list. A frame is told by where its bytes lie in the list, and how many they are; `Cut` is
 // an event of which bytes are missing, `NoEvent` a byte that no event can have there.
-#[derive(Drop)]
+#[derive(Clone, Copy)]
 pub enum Found {
     RegisterWrite(u32, u32),
     Grant(u32),
@@ -19,7 +21,7 @@ pub enum Found {
 
 // What is behind the last whole event of a list: nothing, an event of which bytes are missing, or a byte that no event can
 // have there.
-#[derive(Drop)]
+#[derive(Clone, Copy)]
 pub enum Ending {
     Whole,
     Cut,
@@ -27,7 +29,7 @@ pub enum Ending {
 }
 
 // The bytes of the whole events of a list, how many events they are, and what is behind them.
-#[derive(Drop)]
+#[derive(Clone, Copy)]
 pub struct Walked {
     pub place: usize,
     pub events: usize,

@@ -1,9 +1,11 @@
 // Events put into a list, one behind the other, as their bytes (02, Wish 4; docs/TRACE.md). Each function puts an event behind
 // the first `at` bytes of a list and answers where its bytes end. Where they have no room the answer is 0, which no event ends
 // at, and the list is as it was.
+#![tactic(auto)]
+
 ghost use Rattle.std.specs.Prelude.{◌≡◌, ◌∷◌, ◌++◌};
 ghost use Rattle.memory.specs.Memory.{word_bytes};
-ghost use Rattle.event.specs.Event.{register_write, grant as a_grant, frame as aFrame, send as a_send, bytes_of};
+ghost use Rattle.event.specs.Event.{register_write, grant as a_grant, frame as a_frame, send as a_send, bytes_of};
 ghost use Rattle.appending.specs.Put.{put_of, put};
 
 // The bytes of a register write.
@@ -51,7 +53,7 @@ pub fn grant(list: &mut [u8], at: usize, address: u32) -> usize
 }
 
 pub fn frame(list: &mut [u8], at: usize, s: &[u8]) -> usize
-    ensures { put_of result list.new ≡ put list.old at (bytes_of (aFrame s.now)) }
+    ensures { put_of result list.new ≡ put list.old at (bytes_of (a_frame s.now)) }
 {
     let head = numbered(3, s.len());
     appending::put(list, at, &head, s)

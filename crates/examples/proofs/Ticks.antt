@@ -1,8 +1,7 @@
 -- A send that does not get on: its descriptor is granted, sending runs, and the time-out is 2. Two ticks are counted, and the third
 -- sets TX_TO (000D0001h with the status at reset) and starts the count again. Assumes nothing.
-use Prim.Native.Nat.{ℕ}
 use mathlib.Core.Path.{◌≡◌, refl, ap}
-use mathlib.Core.List.{List, ◌++◌}
+use mathlib.Core.List.{◌++◌}
 use native.Mathlib.Omega.{arith}
 use lib.ListN.{replicate}
 use Rattle.memory.specs.Memory.{word, word_bytes}

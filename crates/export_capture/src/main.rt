@@ -1,10 +1,12 @@
 // Replays a recorded day, and makes a capture of the frames that it delivers and sends (docs/CAPTURE.md).
+#![tactic(auto)]
+
 mod messages;
 
 use capturing::Day;
-use libc::STDOUT_FILENO;
 use pcap_export::Exported;
 use recorded_days::Loaded;
+use std::rt::{Env, Files};
 use trace::Summary;
 
 // A trace of 4,096 blocks. Once its events are read, the frames of the day are listed here.
@@ -23,8 +25,12 @@ const MEMORY: usize = 98_312;
 const OUTPUT: usize = 1518;
 
 // Both files of the day, each into a buffer of its own.
-fn load(trace: &mut [u8; TRACE], memory: &mut [u8; MEMORY]) -> Loaded {
-    recorded_days::load(trace, memory)
+fn load<R: Env + Files + Print>(
+    rt: &R,
+    trace: &mut [u8; TRACE],
+    memory: &mut [u8; MEMORY],
+) -> Loaded {
+    recorded_days::load(rt, trace, memory)
 }
 
 // What the trace says, and its events in one piece.
@@ -70,48 +76,53 @@ fn export(list: &[u8; TRACE], n: usize, room: &mut [u8; ROOM]) -> Exported {
 }
 
 // The first bytes of the capture as a file.
-fn save(room: &[u8; ROOM], n: usize) -> u32 {
-    target_files::make(3, memory::part(room, 0, n))
+fn save<R: Env + Files + Print>(rt: &R, room: &[u8; ROOM], n: usize) -> u32 {
+    target_files::make(rt, 3, memory::part(room, 0, n))
 }
 
 // Makes the capture of a day that was played, and says so.
-fn save_day(day: Day, list: &[u8; TRACE], room: &mut [u8; ROOM]) {
+fn save_day<R: Env + Files + Print>(rt: &R, day: Day, list: &[u8; TRACE], room: &mut [u8; ROOM]) {
     let kept = day.kept;
     if kept.full {
-        messages::refused(answer::CAPTURE_ROOM);
+        messages::refused(rt, answer::CAPTURE_ROOM);
         return;
     }
     let exported = export(list, kept.bytes, room);
     if exported.number != answer::DONE {
-        messages::refused(exported.number);
+        messages::refused(rt, exported.number);
         return;
     }
-    if save(room, exported.bytes) == 0 {
-        messages::exported(exported.frames);
+    if save(rt, room, exported.bytes) == 0 {
+        messages::exported(rt, exported.frames);
     }
 }
 
 // Exports a day, or says why not.
-fn export_day(loaded: Loaded, trace: &mut [u8; TRACE], memory: &mut [u8; MEMORY]) {
+fn export_day<R: Env + Files + Print>(
+    rt: &R,
+    loaded: Loaded,
+    trace: &mut [u8; TRACE],
+    memory: &mut [u8; MEMORY],
+) {
     let mut room = [0u8; ROOM];
     let summary = read(loaded, trace, &mut room);
     if summary.number != answer::DONE {
-        messages::refused_trace(summary.number, summary.block);
+        messages::refused_trace(rt, summary.number, summary.block);
         return;
     }
     let day = capture(summary, &room, memory, loaded.memory, trace);
-    save_day(day, trace, &mut room);
+    save_day(rt, day, trace, &mut room);
 }
 
-fn main() {
-    if os::arg_count() != 4 {
-        io::write_all(STDOUT_FILENO, b"usage: export_capture TRACE MEMORY PCAP\n");
+fn main(rt: HostRuntime) {
+    if arguments::count(&rt, 5) != 4 {
+        let _ = println!(rt; "usage: export_capture TRACE MEMORY PCAP");
         return;
     }
     let mut trace = [0u8; TRACE];
     let mut memory = [0u8; MEMORY];
-    let loaded = load(&mut trace, &mut memory);
+    let loaded = load(&rt, &mut trace, &mut memory);
     if loaded.ok {
-        export_day(loaded, &mut trace, &mut memory);
+        export_day(&rt, loaded, &mut trace, &mut memory);
     }
 }

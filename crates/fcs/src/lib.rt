@@ -1,4 +1,6 @@
 // The frame check sequence of IEEE 802.3.
+#![tactic(auto)]
+
 ghost use Rattle.std.specs.Prelude.{◌≡◌, ◌<◌};
 ghost use Rattle.fcs.specs.CheckSequence.{check_number, check_right, room, closed};
 

@@ -2,7 +2,7 @@
 -- lower-case hexadecimal digits, and bytes in lower-case pairs, or `-` for none." Each field stands behind a space.
 -- Assumes nothing.
 use Rattle.std.specs.Prelude.{ℕ, zero, suc, ◌+◌, ◌/◌, ◌%◌, List, [], ◌∷◌, ◌++◌, eqb, ltb, length}
-use Rattle.rules.specs.Choice.{if◌then◌else◌}
+use Rattle.std.specs.Prelude.{if◌then◌else◌}
 use Rattle.words.specs.Words.{characters}
 
 -- what stands for each of some numbers, one behind the other

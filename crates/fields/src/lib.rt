@@ -1,12 +1,14 @@
 // Fields of a line in a buffer that the caller lends, each behind a space. Each function takes where the text so far ends, and
 // answers where it ends then. What has no room is not written.
+#![tactic(auto)]
+
 ghost use Rattle.std.specs.Prelude.{◌≡◌, ◌<◌, ◌≤◌, length};
-ghost use Rattle.text.specs.Text.{written, put as putInto};
-ghost use Rattle.fields.specs.Fields.{digits as digitsOf, number as number_of, glyph as glyphOf, pair as pair_of, pairs as pairs_of, bytes as bytes_of, value as value_of};
+ghost use Rattle.text.specs.Text.{written, put as put_into};
+ghost use Rattle.fields.specs.Fields.{digits as digits_of, number as number_of, glyph as glyph_of, pair as pair_of, pairs as pairs_of, bytes as bytes_of, value as value_of};
 
 // The digits of a number, the last `most` of them.
 fn digits(text: &mut [u8], at: usize, n: u64, most: u32) -> usize
-    ensures { written result text.new ≡ putInto text.old at (digitsOf most n) }
+    ensures { written result text.new ≡ put_into text.old at (digits_of most n) }
 {
     if most == 0 {
         return text::put(text, at, b"");
@@ -21,7 +23,7 @@ fn digits(text: &mut [u8], at: usize, n: u64, most: u32) -> usize
 
 // A number in decimal digits.
 pub fn number(text: &mut [u8], at: usize, n: u64) -> usize
-    ensures { written result text.new ≡ putInto text.old at (number_of n) }
+    ensures { written result text.new ≡ put_into text.old at (number_of n) }
 {
     let end = text::character(text, at, b' ');
     digits(text, end, n, 20)
@@ -30,7 +32,7 @@ pub fn number(text: &mut [u8], at: usize, n: u64) -> usize
 // The character of a digit.
 fn glyph(d: u8) -> u8
     requires { d < 16 }
-    ensures { result ≡ glyphOf d }
+    ensures { result ≡ glyph_of d }
 {
     if d < 10 {
         return b'0' + d;
@@ -40,7 +42,7 @@ fn glyph(d: u8) -> u8
 
 // The two digits of a byte, with no space before them.
 fn pair(text: &mut [u8], at: usize, b: u8) -> usize
-    ensures { written result text.new ≡ putInto text.old at (pair_of b) }
+    ensures { written result text.new ≡ put_into text.old at (pair_of b) }
 {
     text::put(text, at, &[glyph(b / 16), glyph(b % 16)])
 }
@@ -48,7 +50,7 @@ fn pair(text: &mut [u8], at: usize, b: u8) -> usize
 // The digits of bytes.
 fn pairs(text: &mut [u8], at: usize, s: &[u8]) -> usize
     requires { at ≤ length text.old }
-    ensures { written result text.new ≡ putInto text.old at (pairs_of s.now) }
+    ensures { written result text.new ≡ put_into text.old at (pairs_of s.now) }
 {
     let mut end = at;
     let mut i = 0;
@@ -61,7 +63,7 @@ fn pairs(text: &mut [u8], at: usize, s: &[u8]) -> usize
 
 // Bytes in pairs of hexadecimal digits, `-` for none.
 pub fn bytes(text: &mut [u8], at: usize, s: &[u8]) -> usize
-    ensures { written result text.new ≡ putInto text.old at (bytes_of s.now) }
+    ensures { written result text.new ≡ put_into text.old at (bytes_of s.now) }
 {
     if s.len() == 0 {
         return text::put(text, at, b" -");
@@ -72,7 +74,7 @@ pub fn bytes(text: &mut [u8], at: usize, s: &[u8]) -> usize
 
 // A value or an address in 8 hexadecimal digits.
 pub fn value(text: &mut [u8], at: usize, v: u32) -> usize
-    ensures { written result text.new ≡ putInto text.old at (value_of v) }
+    ensures { written result text.new ≡ put_into text.old at (value_of v) }
 {
     let end = text::character(text, at, b' ');
     let a = (v / 0x100_0000 % 256) as u8;

@@ -2,6 +2,7 @@
 ghost use Rattle.std.specs.Prelude.{◌+◌, ◌≤◌, length};
 
 use crate::Got;
+use std::io::Read;
 
 // A file that cannot be read.
 pub(crate) fn failed() -> Got
@@ -15,48 +16,48 @@ pub(crate) fn failed() -> Got
 }
 
 // Whether there is another byte behind so many: one is read, and not kept.
-fn rest(fd: i32, count: usize) -> Got
+fn rest<F: Read>(file: &mut F, count: usize) -> Got
     ensures { result.count ≤ count }
 {
     let mut one = [0u8; 1];
-    let got = libc::read(fd, &mut one);
-    if got < 0 {
-        return failed();
-    }
-    Got {
-        ok: true,
-        count,
-        more: 0 < got,
+    match file.read(&mut one) {
+        Ok(got) => Got {
+            ok: true,
+            count,
+            more: 0 < got,
+        },
+        Err(_) => failed(),
     }
 }
 
 // What one read gave: whether it went well, and how many bytes. None is the file's end.
-#[derive(Drop)]
+#[derive(Clone, Copy)]
 struct Step {
     ok: bool,
     count: usize,
 }
 
 // One read into the buffer behind so many bytes.
-fn read_more(fd: i32, buffer: &mut [u8], from: usize) -> Step
+fn read_more<F: Read>(file: &mut F, buffer: &mut [u8], from: usize) -> Step
     requires { from ≤ length buffer.old }
     ensures { from + result.count ≤ length buffer.new }
 {
-    let part = &mut buffer[from..];
-    let got = libc::read(fd, part);
-    Step {
-        ok: 0 <= got,
-        count: io::count(got, part),
+    match file.read(&mut buffer[from..]) {
+        Ok(count) => Step { ok: true, count },
+        Err(_) => Step {
+            ok: false,
+            count: 0,
+        },
     }
 }
 
 // Reads until the file ends or the buffer is full.
-pub(crate) fn read_all(fd: i32, buffer: &mut [u8]) -> Got
+pub(crate) fn read_all<F: Read>(file: &mut F, buffer: &mut [u8]) -> Got
     ensures { result.count ≤ length buffer.new }
 {
     let mut count = 0;
     while count < buffer.len() {
-        let step = read_more(fd, buffer, count);
+        let step = read_more(file, buffer, count);
         if step.count == 0 {
             return Got {
                 ok: step.ok,
@@ -66,5 +67,5 @@ pub(crate) fn read_all(fd: i32, buffer: &mut [u8]) -> Got
         }
         count += step.count;
     }
-    rest(fd, count)
+    rest(file, count)
 }

@@ -1,9 +1,11 @@
 // The filter registers, and what they say: receive-all, the filter mode, the station address.
+#![tactic(auto)]
+
 ghost use Rattle.std.specs.Prelude.{◌≡◌};
 ghost use Rattle.filter.specs.Meaning.{receive_all, filter_mode, station_address};
 
 // The filter registers: MAC control, MAC address high and low, multicast hash high and low.
-#[derive(Drop)]
+#[derive(Clone, Copy)]
 pub struct Filter {
     pub mcr: u32,
     pub mah: u32,
@@ -13,7 +15,7 @@ pub struct Filter {
 }
 
 // A station address, its bytes in the order in which they are sent.
-#[derive(Drop)]
+#[derive(Clone, Copy)]
 pub struct Station {
     pub bytes: [u8; 6],
 }

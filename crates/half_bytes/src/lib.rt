@@ -1,4 +1,6 @@
 // The shift register of the check sequence, in half bytes: four single-bit steps at a time.
+#![tactic(auto)]
+
 ghost use Rattle.std.specs.Prelude.{◌≡◌};
 ghost use Rattle.std.specs.Int.Bits.{bit_xor};
 ghost use Rattle.half_bytes.specs.Clocks.{clocks, bytes_in, feedback802};

@@ -1,7 +1,7 @@
 -- 02, "Multicast by hash": whether the hash registers take a group address. Assumes nothing.
 use Rattle.std.specs.Prelude.{ℕ, ◌+◌, ◌*◌, ◌%◌, ◌^◌, Bool, List, [], ◌∷◌, length, take}
 use Rattle.rules.specs.Bit.{bit}
-use Rattle.rules.specs.Choice.{if◌then◌else◌}
+use Rattle.std.specs.Prelude.{if◌then◌else◌}
 use Rattle.fcs.specs.CheckSequence.{digit}
 use Rattle.fcs.specs.Polynomial.{register_bits}
 

@@ -1,4 +1,6 @@
 // The multicast hash: whether the hash registers take a group address.
+#![tactic(auto)]
+
 ghost use Rattle.std.specs.Prelude.{◌≡◌};
 ghost use Rattle.hash.specs.Hash.{hash_index, hash_table, hash_accepts};
 

@@ -1,11 +1,13 @@
 // Makes a trace of a capture: its frames are the events (docs/CAPTURE.md).
+#![tactic(auto)]
+
 mod messages;
 mod parameters;
 
 use files::Got;
-use libc::STDOUT_FILENO;
 use parameters::Window;
 use pcap_import::Imported;
+use std::rt::{Env, Files};
 use trace_writing::Written;
 
 // The longest capture that is read.
@@ -20,13 +22,13 @@ const EVENTS: usize = CAPTURE;
 const TIMES: usize = CAPTURE / 2;
 
 // The capture into the first bytes of its buffer.
-fn load_first(buffer: &mut [u8]) -> Got {
+fn load_first<R: Env + Files + Print>(rt: &R, buffer: &mut [u8]) -> Got {
     let k = files::within(CAPTURE, buffer);
-    files::load(1, &mut buffer[..k])
+    files::load(rt, 1, &mut buffer[..k])
 }
 
-fn load(buffer: &mut [u8; TRACE]) -> Got {
-    load_first(buffer)
+fn load<R: Env + Files + Print>(rt: &R, buffer: &mut [u8; TRACE]) -> Got {
+    load_first(rt, buffer)
 }
 
 // Its frames as events, and their times.
@@ -58,12 +60,13 @@ fn size(blocks: usize) -> usize {
 }
 
 // The first blocks of the trace as a file.
-fn save(trace: &[u8; TRACE], blocks: usize) -> u32 {
-    target_files::make(2, memory::part(trace, 0, size(blocks)))
+fn save<R: Env + Files + Print>(rt: &R, trace: &[u8; TRACE], blocks: usize) -> u32 {
+    target_files::make(rt, 2, memory::part(trace, 0, size(blocks)))
 }
 
 // Makes the trace of events that were imported, and says so.
-fn save_events(
+fn save_events<R: Env + Files + Print>(
+    rt: &R,
     window: Window,
     imported: Imported,
     events: &[u8; EVENTS],
@@ -72,50 +75,52 @@ fn save_events(
 ) {
     let written = write(window, events, imported.bytes, trace);
     if written.number != answer::DONE {
-        messages::refused(written.number);
+        messages::refused(rt, written.number);
         return;
     }
-    if save(trace, written.blocks) == 0 {
-        messages::imported(imported.frames, times);
+    if save(rt, trace, written.blocks) == 0 {
+        messages::imported(rt, imported.frames, times);
     }
 }
 
 // Imports a capture of so many bytes, or says why not.
-fn import_file(window: Window, count: usize, buffer: &mut [u8; TRACE]) {
+fn import_file<R: Env + Files + Print>(
+    rt: &R,
+    window: Window,
+    count: usize,
+    buffer: &mut [u8; TRACE],
+) {
     let mut events = [0u8; EVENTS];
     let mut times = [0u8; TIMES];
     let imported = import(buffer, count, &mut events, &mut times);
     if imported.number != answer::DONE {
-        messages::refused(imported.number);
+        messages::refused(rt, imported.number);
         return;
     }
-    save_events(window, imported, &events, &times, buffer);
+    save_events(rt, window, imported, &events, &times, buffer);
 }
 
 // Reads the capture. One that is longer than the room is refused, whatever is in it.
-fn import_window(window: Window) {
+fn import_window<R: Env + Files + Print>(rt: &R, window: Window) {
     let mut buffer = [0u8; TRACE];
-    let read = load(&mut buffer);
+    let read = load(rt, &mut buffer);
     if !read.ok {
         return;
     }
     if read.more {
-        messages::refused(answer::IMPORT_ROOM);
+        messages::refused(rt, answer::IMPORT_ROOM);
         return;
     }
-    import_file(window, read.count, &mut buffer);
+    import_file(rt, window, read.count, &mut buffer);
 }
 
-fn main() {
-    if os::arg_count() != 5 {
-        io::write_all(
-            STDOUT_FILENO,
-            b"usage: import_capture PCAP TRACE BASE LENGTH\n",
-        );
+fn main(rt: HostRuntime) {
+    if arguments::count(&rt, 6) != 5 {
+        let _ = println!(rt; "usage: import_capture PCAP TRACE BASE LENGTH");
         return;
     }
-    let window = parameters::read(3, 4);
+    let window = parameters::read(&rt, 3, 4);
     if window.ok {
-        import_window(window);
+        import_window(&rt, window);
     }
 }

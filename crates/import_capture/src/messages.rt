@@ -1,6 +1,5 @@
 // What the program says on standard output. A capture may have many frames, so lines wait until there are many to write.
 use crate::TIMES;
-use libc::STDOUT_FILENO;
 
 // Text that waits to be written.
 const TEXT: usize = 65_536;
@@ -9,11 +8,11 @@ const TEXT: usize = 65_536;
 const MOST: usize = TEXT - 64;
 
 // Writes what waits where it is more than `most`, and answers how much waits then.
-fn write_past(most: usize, text: &[u8; TEXT], waiting: usize) -> usize {
+fn write_past<P: Print>(rt: &P, most: usize, text: &[u8; TEXT], waiting: usize) -> usize {
     if waiting <= most {
         return waiting;
     }
-    io::write_all(STDOUT_FILENO, memory::part(text, 0, waiting));
+    let _ = rt.write_all(memory::part(text, 0, waiting));
     0
 }
 
@@ -36,11 +35,11 @@ fn time_line(text: &mut [u8; TEXT], waiting: usize, times: &[u8], at: usize) -> 
 }
 
 // The times of so many bytes, one a line.
-fn time_lines(text: &mut [u8; TEXT], begun: usize, times: &[u8]) -> usize {
+fn time_lines<P: Print>(rt: &P, text: &mut [u8; TEXT], begun: usize, times: &[u8]) -> usize {
     let mut waiting = begun;
     let mut at = 0;
     while at < times.len() {
-        waiting = write_past(MOST, text, waiting);
+        waiting = write_past(rt, MOST, text, waiting);
         waiting = time_line(text, waiting, times, at);
         at += 8;
     }
@@ -55,15 +54,15 @@ fn told(times: &[u8; TIMES], frames: usize) -> &[u8] {
     memory::part(times, 0, TIMES)
 }
 
-pub(crate) fn refused(number: u32) {
+pub(crate) fn refused<P: Print>(rt: &P, number: u32) {
     let mut text = [0u8; TEXT];
     let n = refused_line(&mut text, number);
-    write_past(0, &text, n);
+    write_past(rt, 0, &text, n);
 }
 
-pub(crate) fn imported(frames: usize, times: &[u8; TIMES]) {
+pub(crate) fn imported<P: Print>(rt: &P, frames: usize, times: &[u8; TIMES]) {
     let mut text = [0u8; TEXT];
     let n = first_line(&mut text, frames);
-    let n = time_lines(&mut text, n, told(times, frames));
-    write_past(0, &text, n);
+    let n = time_lines(rt, &mut text, n, told(times, frames));
+    write_past(rt, 0, &text, n);
 }

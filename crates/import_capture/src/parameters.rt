@@ -2,9 +2,10 @@
 use arguments::WORD;
 use forms::numbers;
 use forms::numbers::Number;
+use std::rt::Env;
 
 // Whether both words are of their form, and what they say.
-#[derive(Drop)]
+#[derive(Clone, Copy)]
 pub(crate) struct Window {
     pub(crate) ok: bool,
     pub(crate) base: u32,
@@ -20,8 +21,8 @@ fn none() -> Window {
 }
 
 // Puts an argument at the front of a buffer, and answers its length.
-fn fetch(i: usize, word: &mut [u8; WORD]) -> usize {
-    arguments::fetch(i, word)
+fn fetch<R: Env>(rt: &R, i: usize, word: &mut [u8; WORD]) -> usize {
+    arguments::fetch(rt, i, word)
 }
 
 // The word of so many characters.
@@ -30,20 +31,20 @@ fn part(word: &[u8; WORD], n: usize) -> &[u8] {
 }
 
 // Says that a word is wrong.
-fn wrong(word: &[u8]) -> Window {
-    arguments::wrong(word);
+fn wrong<P: Print>(rt: &P, word: &[u8]) -> Window {
+    arguments::wrong(rt, word);
     none()
 }
 
 // The window of a base address and a length.
-fn of_words(base: &[u8], length: &[u8]) -> Window {
+fn of_words<P: Print>(rt: &P, base: &[u8], length: &[u8]) -> Window {
     let b = numbers::hexadecimal(base);
     let Number::Is(base_number) = b else {
-        return wrong(base);
+        return wrong(rt, base);
     };
     let l = numbers::decimal(length, 99_999_999);
     let Number::Is(length_number) = l else {
-        return wrong(length);
+        return wrong(rt, length);
     };
     Window {
         ok: true,
@@ -53,10 +54,10 @@ fn of_words(base: &[u8], length: &[u8]) -> Window {
 }
 
 // The window that two arguments name, or `error WORD` of the first that is not of its form.
-pub(crate) fn read(base: usize, length: usize) -> Window {
+pub(crate) fn read<R: Env + Print>(rt: &R, base: usize, length: usize) -> Window {
     let mut one = [0u8; WORD];
-    let n = fetch(base, &mut one);
+    let n = fetch(rt, base, &mut one);
     let mut two = [0u8; WORD];
-    let k = fetch(length, &mut two);
-    of_words(part(&one, n), part(&two, k))
+    let k = fetch(rt, length, &mut two);
+    of_words(rt, part(&one, n), part(&two, k))
 }

@@ -1,6 +1,6 @@
 -- 02, Wish 1: a burst as the single receives that it makes. Assumes nothing.
 use Rattle.std.specs.Prelude.{ℕ, suc, ◌<◌, ◌≡◌, true, false, ◌≢◌, List, [], ◌∷◌, length, get_or, take, drop}
-use Rattle.rules.specs.Choice.{if◌then◌else◌}
+use Rattle.std.specs.Prelude.{if◌then◌else◌}
 use Rattle.pair.specs.declared.Pair.{Pair}
 use Rattle.pair.specs.Pair.{pair, passes, bytes_of}
 use Rattle.burst.specs.Taken.{taken, frames_inside}

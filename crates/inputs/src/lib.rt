@@ -1,1 +1,3 @@
 // A burst as its single receives: specs/, proved in proofs/. No code.
+
+#![tactic(auto)]

@@ -1,11 +1,13 @@
 // The console's commands in two kinds: those that ask, and change nothing, and those that act; and the one that makes a new bench.
+#![tactic(auto)]
+
 ghost use Rattle.std.specs.Prelude.{◌≡◌};
 ghost use Rattle.kinds.specs.Kinds.{kind_of, renews};
 
 use script::Command;
 
 // The calls that change nothing.
-#[derive(Drop)]
+#[derive(Clone, Copy)]
 pub enum Query {
     Read,
     Line,
@@ -19,7 +21,7 @@ pub enum Query {
 }
 
 // The calls that change the bench or what is lent.
-#[derive(Drop)]
+#[derive(Clone, Copy)]
 pub enum Act {
     New,
     Lend,
@@ -33,7 +35,7 @@ pub enum Act {
     Poke,
 }
 
-#[derive(Drop)]
+#[derive(Clone, Copy)]
 pub enum Kind {
     Asks(Query),
     Acts(Act),

@@ -1,4 +1,6 @@
 // The calls of the device over the memory that it is lent. Each writes its line.
+#![tactic(auto)]
+
 ghost use Rattle.std.specs.Prelude.{◌≡◌, length};
 ghost use Rattle.forms.specs.Pairs.{named};
 ghost use Rattle.text.specs.Text.{written, put};

@@ -3,31 +3,21 @@ use Prim.Native.Nat.{ℕ, ◌+◌, ◌-◌, ◌^◌, ◌≤◌, ◌<◌}
 use mathlib.Core.Path.{◌≡◌, refl, sym, ◌∙◌}
 use mathlib.Core.Bool.{true, false, true≢false}
 use mathlib.Core.List.{List}
-use native.Mathlib.Nat.{zero-add}
 use native.Mathlib.Omega.{arith}
 use borrow.Author.Tests.{lt-ltb, le-ltb, ne_eqb}
 use lib.ListN.{length, drop, length-take, length-drop, take as front}
-use lib.Seq.{take_all}
-use Rattle.bytes.specs.Bytes.{slice, index_of}
+use Rattle.scanning.specs.Scanning.{index_of}
 use Rattle.rules.proofs.Choices.{if_yes, if_no}
 use Rattle.text.specs.Text.{written, put}
 use Rattle.lines.specs.declared.Input.{Input}
 use Rattle.lines.specs.Taking.{left, taken, take}
 use Rattle.lines.specs.Reading.{over, refilled, read, More}
 
--- all of a list is a slice of it
-slice_all : (s : List ℕ) → slice 0 (length s) s ≡ s
-unfolding slice
-slice_all s = take_all (length s) s (omega arith)
-
 -- ---- a part that is taken
 
 -- what is left of the chunk, up to its first line feed, and the buffer behind it
 module _ (i : Input) (chunk line line' s p : List ℕ) (d n kept parts : ℕ) (ed : d ≡ i.to - i.from) (es : s ≡ front d (drop i.from chunk))
-    (en : n ≡ 0 + index_of 10 (slice 0 (length s) s)) where
-  found : n ≡ index_of 10 s
-  found = rw (slice_all s, zero-add) at en
-
+    (found : n ≡ index_of 10 s) where
   here : s ≡ left i chunk
   here = rw ed at es
 

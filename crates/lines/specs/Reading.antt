@@ -1,6 +1,6 @@
 -- What a read leaves. Which characters come, and how many, is the system's. Assumes nothing.
 use Rattle.std.specs.Prelude.{ℕ, ◌≤◌, ◌≡◌, true, false, List, eqb, ltb, length}
-use Rattle.rules.specs.Choice.{if◌then◌else◌}
+use Rattle.std.specs.Prelude.{if◌then◌else◌}
 use Rattle.lines.specs.declared.Input.{Input}
 
 -- a chunk of n characters, behind what is kept of the line

@@ -1,7 +1,7 @@
 -- Parts of the input, and the lines that they make: docs/CONSOLE.md, "Lines and words". Assumes nothing.
 use Rattle.std.specs.Prelude.{ℕ, ◌+◌, ◌-◌, ◌^◌, true, false, List, ltb, length, drop, take as front}
-use Rattle.bytes.specs.Bytes.{index_of}
-use Rattle.rules.specs.Choice.{if◌then◌else◌}
+use Rattle.scanning.specs.Scanning.{index_of}
+use Rattle.std.specs.Prelude.{if◌then◌else◌}
 use Rattle.text.specs.Text.{put}
 use Rattle.lines.specs.declared.Input.{Input}
 

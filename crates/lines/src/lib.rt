@@ -1,8 +1,12 @@
 // Standard input into lines. A line is gathered in a buffer, since it may come in several chunks; what is past the buffer's end
 // is not kept. A last part that no line feed follows is a line if it has a character.
-ghost use Rattle.std.specs.Prelude.{◌≡◌, ◌-◌};
+#![tactic(auto)]
+
+ghost use Rattle.std.specs.Prelude.{◌≡◌, ◌-◌, ◌≤◌, length};
 ghost use Rattle.lines.specs.Taking.{begin, taken, take};
 ghost use Rattle.lines.specs.Reading.{More};
+
+use std::io::Read;
 
 // What one read takes at most.
 pub const CHUNK: usize = 65536;
@@ -11,7 +15,7 @@ pub const CHUNK: usize = 65536;
 pub const LINE: usize = 4097;
 
 // How far reading is, after a part of the input.
-#[derive(Drop)]
+#[derive(Clone, Copy)]
 pub struct Input {
     // What is left of the chunk at hand starts here,
     pub from: usize,
@@ -54,7 +58,7 @@ pub fn take(input: Input, chunk: &[u8; CHUNK], line: &mut [u8; LINE]) -> Input
     ensures { taken result line.new ≡ take input chunk.now line.old }
 {
     let left = memory::part(chunk, input.from, less(input.to, input.from));
-    let n = bytes::scan::find(left, 0, left.len(), b'\n');
+    let n = scanning::find(left, b'\n');
     let kept = text::put(line, input.kept, memory::part(left, 0, n));
     let parts = less(input.parts, 1);
     if n < left.len() {
@@ -77,15 +81,24 @@ pub fn take(input: Input, chunk: &[u8; CHUNK], line: &mut [u8; LINE]) -> Input
     }
 }
 
+// One read of a chunk, and how many characters came. One that fails gives none, as at the input's end.
+fn got<R: Read>(from: &mut R, chunk: &mut [u8; CHUNK]) -> usize
+    ensures { result ≤ length chunk.new }
+{
+    match from.read(chunk) {
+        Ok(n) => n,
+        Err(_) => 0,
+    }
+}
+
 // Where that part ended no line, reads the next chunk; where there is none, the input has ended.
-pub fn more(input: Input, chunk: &mut [u8; CHUNK]) -> Input
+pub fn more<R: Read>(input: Input, from: &mut R, chunk: &mut [u8; CHUNK]) -> Input
     ensures { More input result chunk.old chunk.new }
 {
     if input.ended {
         return input;
     }
-    let got = libc::read(libc::STDIN_FILENO, chunk);
-    let to = io::count(got, chunk);
+    let to = got(from, chunk);
     if to == 0 {
         return Input {
             from: 0,

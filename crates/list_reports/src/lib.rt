@@ -1,4 +1,6 @@
 // The line of a name, a number and a list of numbers that the console writes: of a burst.
+#![tactic(auto)]
+
 ghost use Rattle.std.specs.Prelude.{◌≡◌, ◌≤◌, length};
 ghost use Rattle.text.specs.Text.{written, put};
 ghost use Rattle.fields.specs.Fields.{each, number};

@@ -1,6 +1,6 @@
 -- The lines of a name and four fields that the console writes: of a step run, and of both engines. Assumes nothing.
 use Rattle.std.specs.Prelude.{ℕ, Bool, List, ◌++◌}
-use Rattle.rules.specs.Choice.{if◌then◌else◌}
+use Rattle.std.specs.Prelude.{if◌then◌else◌}
 use Rattle.fields.specs.Fields.{number, value, bytes}
 use Rattle.replies.specs.Replies.{newline}
 

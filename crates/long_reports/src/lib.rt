@@ -1,4 +1,6 @@
 // The lines of a name and four fields that the console writes: of a step run, and of both engines.
+#![tactic(auto)]
+
 ghost use Rattle.std.specs.Prelude.{◌≡◌};
 ghost use Rattle.text.specs.Text.{written, put};
 ghost use Rattle.long_reports.specs.LongReports.{counts, ran, engine, engines};

@@ -1,8 +1,9 @@
 // The longest step run that there can be: 4,096 granted descriptors fill a window of 65,536 bytes, each sends 14 bytes of
 // the next one, and one run sends them all. The proofs do not speak of the stack: this run shows that the step run's
 // recursion has room at its greatest depth.
+#![tactic(auto)]
+
 use enet::Enet;
-use libc::STDOUT_FILENO;
 use registers::Registers;
 
 // Descriptor k: 14 bytes, next-enable, granted. Its buffer and its next descriptor are the one behind it.
@@ -29,22 +30,15 @@ fn sender() -> Enet {
     started.device
 }
 
-fn wide(x: u32) -> u64 {
-    x as u64
-}
-
-fn print(label: &[u8], value: u64) {
-    io::write_all(STDOUT_FILENO, label);
-    io::print_decimal(STDOUT_FILENO, value);
-    io::write_all(STDOUT_FILENO, b"\n");
-}
-
-fn main() {
+fn main(rt: HostRuntime) {
     let mut memory = [0u8; 65536];
     let mut output = [0u8; 263662];
     put_descriptors(&mut memory);
     let ran = sender().run(&mut memory, &mut output, 4096);
-    print(b"answer ", wide(ran.number));
-    print(b"steps ", wide(ran.steps));
-    print(b"bytes ", ran.count as u64);
+    let answer = ran.number;
+    let steps = ran.steps;
+    let bytes = ran.count;
+    let _ = println!(rt; "answer {answer}");
+    let _ = println!(rt; "steps {steps}");
+    let _ = println!(rt; "bytes {bytes}");
 }

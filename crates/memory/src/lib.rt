@@ -1,5 +1,7 @@
 // Little-endian 32-bit words and runs of bytes in lent memory. Every function is total: a byte past the end
 // reads 0, and a store past the end does nothing.
+#![tactic(auto)]
+
 ghost use Rattle.std.specs.Prelude.{◌≤◌, ◌⊎◌, ◌≡◌, get_or, set, take, drop};
 ghost use Rattle.memory.specs.Memory.{word_of, word, store_word, store};
 

@@ -5,7 +5,7 @@ use mathlib.Core.Bool.{Bool, false}
 use mathlib.Core.List.{List}
 use lib.Dec.{eqb, ltb}
 use lib.ListN.{length}
-use Rattle.rules.specs.Choice.{if◌then◌else◌}
+use Rattle.std.specs.Prelude.{if◌then◌else◌}
 use Rattle.fcs.specs.Bytes.{same}
 use Rattle.hash.specs.Hash.{hash_accepts}
 use Rattle.hash.proofs.Meaning.{ones_accept, zeros_refuse}

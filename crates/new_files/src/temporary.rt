@@ -2,6 +2,11 @@
 // that is taken is somebody else's, and stays as it is.
 ghost use Rattle.std.specs.Prelude.{◌≤◌, length};
 
+use crate::system;
+use std::fs::OpenFile;
+use std::io::{ErrorKind, Seek, SeekFrom, Write};
+use std::rt::Files;
+
 // The longest name that the system takes, and a zero behind it.
 pub(crate) const NAME: usize = 4096;
 
@@ -48,11 +53,13 @@ fn beside(path: &[u8], i: usize, name: &mut [u8; NAME]) -> usize {
     n + 6
 }
 
-// Writes the bytes to a file that was just made, and closes it.
-fn filled(fd: i32, bytes: &[u8]) -> bool {
-    let whole = io::write_all(fd, bytes);
-    let closed = libc::close(fd);
-    if whole { closed == 0 } else { false }
+// Writes the bytes to a file that was just made, and closes it. Closing answers nothing here, so the system is asked before whether
+// it has taken them.
+fn filled<F: Write + OpenFile + Drop>(mut file: F, bytes: &[u8]) -> bool {
+    if file.write_all(bytes).is_err() {
+        return false;
+    }
+    file.sync_all().is_ok()
 }
 
 // The last part of a name, behind its folder.
@@ -62,44 +69,54 @@ fn last(path: &[u8]) -> &[u8] {
 
 // Makes a file of a name that is free. A name that ends as one of the two that are asked for may be that one, however its folder
 // is written: it is passed over.
-fn made(name: &[u8], path: &[u8], other: &[u8]) -> i32 {
-    if check::same(last(name), last(path)) {
-        return -1;
+fn made<R: Files>(rt: &R, name: &[u8], path: &[u8], other: &[u8]) -> Option<R::File> {
+    if last(name) == last(path) {
+        return None;
     }
-    if check::same(last(name), last(other)) {
-        return -1;
+    if last(name) == last(other) {
+        return None;
     }
-    os::create(name)
+    system::create(rt, name).ok()
 }
 
 // Whether a file may take the place of what has this name. A folder stays, also where a link leads to it: a file in the link's
 // place would cut off what is behind it. A device, a pipe or a terminal stays: it does not go to a place that it is sent to, as a
-// file does. What else cannot be opened, as where there is nothing, is left to the rename.
-fn is_replaceable(path: &[u8]) -> bool {
-    let fd = os::open_update(path);
-    if fd < 0 {
-        return os::errno() != libc::EISDIR;
+// file does. A name that is no UTF-8 can stand for no file here. What else cannot be opened, as where there is nothing, is left to the
+// rename.
+fn is_replaceable<R: Files>(rt: &R, path: &[u8]) -> bool {
+    match system::open_update(rt, path) {
+        Ok(mut file) => match file.seek(SeekFrom::Start(1)) {
+            Ok(place) => place == 1,
+            Err(_) => false,
+        },
+        Err(e) => match e.kind() {
+            ErrorKind::IsADirectory => false,
+            ErrorKind::InvalidInput => false,
+            _ => true,
+        },
     }
-    let place = libc::lseek(fd, 1, libc::SEEK_SET);
-    libc::close(fd);
-    place == 1
 }
 
 // A file of these bytes under a new name beside another's, one of two that are asked for, put at the front of `name`. Answers the
 // name's length, and 0 where it cannot be written; then there is none.
-pub(crate) fn written(path: &[u8], other: &[u8], bytes: &[u8], name: &mut [u8; NAME]) -> usize {
-    if !is_replaceable(path) {
+pub(crate) fn written<R: Files>(
+    rt: &R,
+    path: &[u8],
+    other: &[u8],
+    bytes: &[u8],
+    name: &mut [u8; NAME],
+) -> usize {
+    if !is_replaceable(rt, path) {
         return 0;
     }
     let mut i = 0;
     while i < TRIES {
         let n = beside(path, i, name);
-        let fd = made(named(name, n), path, other);
-        if 0 <= fd {
-            if filled(fd, bytes) {
+        if let Some(file) = made(rt, named(name, n), path, other) {
+            if filled(file, bytes) {
                 return n;
             }
-            os::unlink(named(name, n));
+            system::unlink(rt, named(name, n));
             return 0;
         }
         i += 1;

@@ -1,4 +1,6 @@
 // Numbers put at the front of a list, as many as there is room for: so functions for programs in other languages answer.
+#![tactic(auto)]
+
 ghost use Rattle.std.specs.Prelude.{◌≡◌};
 ghost use Rattle.memory.specs.Memory.{store};
 

@@ -1,7 +1,7 @@
 -- 01, "Numbered results", "A frame in" and "A frame out", and 02, Wish 5: what a frame in and a frame out leave of the registers,
 -- refused by a number or done. Assumes nothing.
 use Rattle.std.specs.Prelude.{ℕ, Bool, eqb}
-use Rattle.rules.specs.Choice.{if◌then◌else◌}
+use Rattle.std.specs.Prelude.{if◌then◌else◌}
 use Rattle.engine.specs.Engine.{stopped, led_to, not_granted}
 use Rattle.registers.specs.declared.Registers.{Registers}
 use Rattle.registers.specs.Registers.{raised, with_rx, with_tx, tx_curr_done, tx_done, rx_curr_done, rx_done, packet_lost}

@@ -1,4 +1,6 @@
 // What a frame in and a frame out leave of the registers, refused by a number or done.
+#![tactic(auto)]
+
 ghost use Rattle.std.specs.Prelude.{◌≡◌};
 ghost use Rattle.outcomes.specs.Outcomes.{rx_refused, rx_advanced, tx_refused, tx_advanced};
 

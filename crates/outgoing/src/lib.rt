@@ -1,4 +1,6 @@
 // The calls of the device that send from the memory that it is lent. Each writes its line.
+#![tactic(auto)]
+
 ghost use Rattle.std.specs.Prelude.{◌≡◌, length};
 ghost use Rattle.commands.specs.Answers.{given, tells};
 ghost use Rattle.commands.specs.Commands.{zeros, output, send, run};

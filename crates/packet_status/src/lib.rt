@@ -1,5 +1,7 @@
 // The packet status word of a descriptor, on lent memory. Each function is total: a byte past the end of the lent memory
 // reads 0, a store there does nothing, and an address below the base counts as the base.
+#![tactic(auto)]
+
 ghost use Rattle.std.specs.Prelude.{◌≡◌};
 ghost use Rattle.packet_status.specs.PacketStatus.{packet_status, granted, frame_length, with_packet_status};
 

@@ -1,6 +1,6 @@
 -- 02, Wish 1: one pair of a burst, "start and length" in "one lent store of bytes". Assumes nothing.
 use Rattle.std.specs.Prelude.{ℕ, ◌+◌, Bool, List, ltb, length, take, drop}
-use Rattle.rules.specs.Choice.{if◌then◌else◌}
+use Rattle.std.specs.Prelude.{if◌then◌else◌}
 use Rattle.enet.specs.declared.Enet.{Enet}
 use Rattle.enet.specs.Device.{Outcome, leaves}
 use Rattle.enet.specs.Frames.{receive}

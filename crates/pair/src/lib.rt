@@ -1,5 +1,7 @@
 // One pair of a burst: its frame in the lent store, received by a single receive, and its answer in its own place
 // (02, Wish 1).
+#![tactic(auto)]
+
 ghost use Rattle.std.specs.Prelude.{◌≡◌, set};
 ghost use Rattle.enet.specs.Device.{outcome};
 ghost use Rattle.pair.specs.Pair.{pair, received};
@@ -8,7 +10,7 @@ ghost use Rattle.pair.specs.Turn.{bursting, turn};
 use enet::{Answered, Enet};
 
 // Where a frame lies in the store.
-#[derive(Drop)]
+#[derive(Clone, Copy)]
 pub struct Pair {
     pub start: u32,
     pub length: u32,

@@ -1,4 +1,6 @@
 // The pairs of a burst in a line of the bench console, START LENGTH START LENGTH .. behind BYTES (docs/CONSOLE.md).
+#![tactic(auto)]
+
 ghost use Rattle.std.specs.Prelude.{◌≡◌, ◌+◌, ◌≤◌};
 ghost use Rattle.memory.specs.Memory.{store};
 ghost use Rattle.pair_words.specs.PairWords.{right, value, first_number, pairs_from, pairs_behind, every_other};

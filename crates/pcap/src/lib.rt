@@ -1,5 +1,7 @@
 // A capture: a classic pcap file (02, Wish 7; docs/CAPTURE.md). Its header, and one of its records, put into a room. A room that is too
 // short has as much of them as it has room for.
+#![tactic(auto)]
+
 ghost use Rattle.std.specs.Prelude.{◌≡◌};
 ghost use Rattle.memory.specs.Memory.{store};
 ghost use Rattle.pcap.specs.Capture.{header_bytes, message, head_bytes, record_bytes};
@@ -46,7 +48,7 @@ fn message(frame: &[u8]) -> &[u8]
 }
 
 // The bytes before a frame.
-#[derive(Drop)]
+#[derive(Clone, Copy)]
 pub struct RecordHead {
     pub bytes: [u8; 16],
 }

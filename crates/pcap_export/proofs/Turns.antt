@@ -1,11 +1,11 @@
 -- The two loops along a list, entry by entry: one tests the frames, one puts the records. Assumes nothing.
 use Prim.Native.Nat.{ℕ, ◌+◌, ◌^◌, ◌≤◌, ◌<◌}
 use mathlib.Core.Path.{◌≡◌, refl, sym, ap, ◌∙◌}
-use mathlib.Core.List.{List, [], ◌∷◌, ◌++◌, map}
+use mathlib.Core.List.{List, ◌∷◌, map}
 use native.Mathlib.Omega.{arith}
 use lib.ListN.{length, take, drop, length-drop}
 use lib.Seq.{take_all}
-use Rattle.rules.specs.Choice.{if◌then◌else◌, ◌otherwise◌}
+use Rattle.rules.specs.Choice.{◌otherwise◌}
 use Rattle.rules.proofs.Choices.{refused_by, neither, said_eq}
 use Rattle.memory.specs.Memory.{word, store}
 use Rattle.memory.proofs.Stores.{store_append, length_store}

@@ -4,11 +4,10 @@ use mathlib.Core.Path.{◌≡◌, refl, sym, ap, ◌∙◌}
 use mathlib.Core.Bool.{Bool, true, false, not}
 use mathlib.Core.List.{List, ◌++◌}
 use native.Mathlib.Omega.{arith}
-use lib.Dec.{eqb, ltb}
+use lib.Dec.{ltb}
 use lib.ListN.{length}
 use borrow.Author.Tests.{lt-ltb, le-ltb, eq-eqb, ne_eqb, ltb-false}
-use Rattle.rules.specs.Choice.{if◌then◌else◌, ◌otherwise◌}
-use Rattle.rules.proofs.Choices.{by_bool, if_yes, if_no, passed, neither, refused_by, passed_by, said_yes, said_no, not_yes, not_no}
+use Rattle.rules.proofs.Choices.{if_yes, if_no, passed, neither, refused_by, passed_by, said_yes, said_no, not_yes, not_no}
 use Rattle.memory.specs.Memory.{store}
 use Rattle.memory.proofs.Stores.{store_append, length_store}
 use Rattle.fcs.specs.CheckSequence.{check_right}
@@ -17,8 +16,7 @@ use Rattle.pcap.specs.Capture.{header_bytes, records_bytes, capture_bytes}
 use Rattle.pcap.proofs.Laws.{length_header}
 use Rattle.pcap_list.specs.Entries.{entries_of, of_its_form, listed}
 use Rattle.pcap_list.specs.declared.Listed.{Listed}
-use Rattle.pcap_export.specs.declared.Exported.{Exported}
-use Rattle.pcap_export.specs.Export.{frame_fault, first_wrong, export_number, Exporting, exporting, export}
+use Rattle.pcap_export.specs.Export.{frame_fault, first_wrong, export_number, exporting, export}
 use Rattle.pcap_export.specs.Places.{NoneWrong}
 use Rattle.pcap_export.proofs.Lengths.{length_capture}
 

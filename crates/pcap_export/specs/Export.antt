@@ -2,7 +2,8 @@
 -- too little room." Each refusal "takes its own next number .. as named, is tested in that order and changes nothing" (Wish 4).
 -- Assumes nothing.
 use Rattle.std.specs.Prelude.{ℕ, not, List, [], ◌∷◌, eqb, ltb, length}
-use Rattle.rules.specs.Choice.{if◌then◌else◌, ◌otherwise◌}
+use Rattle.std.specs.Prelude.{if◌then◌else◌}
+use Rattle.rules.specs.Choice.{◌otherwise◌}
 use Rattle.memory.specs.Memory.{store}
 use Rattle.fcs.specs.CheckSequence.{check_right}
 use Rattle.frame.specs.Length.{length_allowed}

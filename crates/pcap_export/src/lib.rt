@@ -1,5 +1,7 @@
 // Frames with their times exported as a capture (02, Wish 7; docs/CAPTURE.md): first the number, then the file. The entry of a
 // frame that is right and its record have as many bytes, so each record lies a header's length behind where its entry lies in the list.
+#![tactic(auto)]
+
 ghost use Rattle.std.specs.Prelude.{◌+◌, ◌≤◌, ◌≡◌, length};
 ghost use Rattle.memory.specs.Memory.{store};
 ghost use Rattle.pcap.specs.Capture.{record_bytes, records_bytes};
@@ -8,7 +10,7 @@ ghost use Rattle.pcap_export.specs.Export.{frame_fault, first_wrong, export_numb
 ghost use Rattle.pcap_export.specs.Places.{NoneWrong};
 
 // A capture that was made: 0, how many bytes it has and how many frames; or the number of the refusal and zeros.
-#[derive(Drop)]
+#[derive(Clone, Copy)]
 pub struct Exported {
     pub number: u32,
     pub bytes: usize,

@@ -1,25 +1,21 @@
 -- "An exported file imports to the same frames and times". Assumes nothing.
-use Prim.Native.Nat.{ℕ, ◌+◌, ◌≤◌}
-use mathlib.Core.Path.{◌≡◌, refl, sym, ap, ◌∙◌}
-use mathlib.Core.Bool.{true, not}
-use mathlib.Core.List.{List, [], ◌∷◌, ◌++◌}
+use Prim.Native.Nat.{ℕ, ◌≤◌}
+use mathlib.Core.Path.{◌≡◌, refl, sym}
+use mathlib.Core.Bool.{true}
+use mathlib.Core.List.{List, ◌++◌}
 use native.Mathlib.Omega.{arith}
-use lib.Dec.{eqb, ltb}
-use lib.ListN.{length, take, drop, length-append}
-use lib.Seq.{take_at}
-use borrow.Author.Tests.{le-ltb, eq-eqb, eqb-true, eqb-false}
-use Rattle.rules.specs.Choice.{if◌then◌else◌, ◌otherwise◌}
+use lib.Dec.{eqb}
+use lib.ListN.{length, take, drop}
+use borrow.Author.Tests.{le-ltb, eq-eqb, eqb-true}
 use Rattle.rules.proofs.Choices.{by_bool, if_yes, if_no, passed_by, or_no, not_no}
 use Rattle.memory.specs.Memory.{word, word_bytes, store}
 use Rattle.memory.proofs.Stores.{part_back}
-use Rattle.block_forms.specs.Forms.{Bytes}
 use Rattle.pcap.specs.Capture.{Captured, header_bytes, records_bytes, capture_bytes}
-use Rattle.pcap.proofs.Laws.{length_header}
 use Rattle.pcap_list.specs.Entries.{entries_of}
 use Rattle.pcap_export.specs.Export.{export_number, exporting, export}
 use Rattle.pcap_export.proofs.Lengths.{length_capture}
 use Rattle.pcap_export.proofs.Ways.{accepted}
-use Rattle.pcap_records.specs.Records.{records_fault, frames_of, all_storable}
+use Rattle.pcap_records.specs.Records.{records_fault, all_storable}
 use Rattle.pcap_import.specs.Import.{header_fault, imported_frames, events_of, times_of, too_little, import_number, look, importing, import}
 use Rattle.pcap_forms.specs.Forms.{Back, RoundTrip, ExportedImports}
 use Rattle.pcap_forms.proofs.Records.{AllExportable, made_frames, made_right, made_storable}

@@ -1,16 +1,17 @@
 -- The frames that import gives: their check sequences are right, and their events are whole. Assumes nothing.
-use Prim.Native.Nat.{ℕ, zero, suc, ◌+◌, ◌%◌, ◌/◌, ◌^◌, ◌<◌}
-use mathlib.Core.Path.{◌≡◌, refl, ◌∙◌}
-use mathlib.Core.Bool.{true, not, ◌&&◌}
+use Prim.Native.Nat.{ℕ, zero, suc, ◌^◌, ◌<◌}
+use mathlib.Core.Path.{◌≡◌, refl}
+use mathlib.Core.Bool.{true, not}
 use mathlib.Core.List.{List, [], ◌∷◌, ◌++◌, map}
 use native.Mathlib.Omega.{arith}
 use lib.Dec.{eqb, ltb}
-use lib.ListN.{length, get_or, take, drop}
+use lib.ListN.{length, take, drop}
 use borrow.Author.Tests.{ltb-true}
-use Rattle.rules.specs.Choice.{if◌then◌else◌, ◌otherwise◌}
+use Rattle.std.specs.Prelude.{if◌then◌else◌}
+use Rattle.rules.specs.Choice.{◌otherwise◌}
 use Rattle.rules.proofs.Choices.{by_bool, passed, neither, or_parts, and_parts, said_yes}
 use Rattle.memory.specs.Memory.{word, word_bytes}
-use Rattle.fcs.specs.CheckSequence.{check_number, check_sequence}
+use Rattle.fcs.specs.CheckSequence.{check_sequence}
 use Rattle.fcs.proofs.Meaning.{closed_message_right}
 use Rattle.block_forms.specs.Forms.{Bytes}
 use Rattle.trace_forms.specs.Events.{AllStorable}
@@ -18,7 +19,7 @@ use Rattle.trace_forms.proofs.Bytewise.{digits, bytes_drop, bytes_take, word_sma
 use Rattle.trace_forms.proofs.Lists.{events_back}
 use Rattle.pieces.specs.Pieces.{pieces_by, pieces}
 use Rattle.pcap.specs.Capture.{Captured}
-use Rattle.pcap_records.specs.Records.{record_size, records_fault, with_check, captured_of, frames_of, storable, all_storable}
+use Rattle.pcap_records.specs.Records.{record_size, records_fault, captured_of, frames_of, storable, all_storable}
 use Rattle.pcap_import.specs.Import.{header_fault, imported_frames, frame_event, events_of, time_bytes, times_of, too_little, import_number}
 use Rattle.pcap_forms.specs.Forms.{AllChecked, ChecksRight, Tells, TimesTold, FrameEvents}
 

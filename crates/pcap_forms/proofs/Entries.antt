@@ -6,8 +6,8 @@ use mathlib.Core.List.{List, [], ◌∷◌, ◌++◌, map, append_assoc}
 use native.Mathlib.Omega.{arith}
 use lib.Dec.{eqb, leb}
 use lib.ListN.{length, take, drop, length-append}
-use borrow.Author.Tests.{le-ltb, eq-eqb, leb-true, leb-false, eqb-false}
-use Rattle.rules.specs.Choice.{if◌then◌else◌}
+use borrow.Author.Tests.{le-ltb, eq-eqb, leb-true}
+use Rattle.std.specs.Prelude.{if◌then◌else◌}
 use Rattle.rules.proofs.Choices.{by_bool, if_no, passed, neither, and_parts, said_yes}
 use Rattle.memory.specs.Memory.{word, word_bytes}
 use Rattle.fcs.specs.CheckSequence.{check_right}

@@ -1,15 +1,14 @@
 -- One form: a file that is imported is what is made of what it gave. Assumes nothing.
 use Prim.Native.Nat.{ℕ, zero, suc, ◌+◌, ◌-◌, ◌≤◌}
 use mathlib.Core.Path.{◌≡◌, refl, sym, ap, ap₂, ◌∙◌}
-use mathlib.Core.Bool.{true, false, not}
-use mathlib.Core.List.{List, [], ◌∷◌, ◌++◌, map}
+use mathlib.Core.Bool.{true, not}
+use mathlib.Core.List.{List, ◌++◌, map}
 use native.Mathlib.Omega.{arith}
-use lib.Dec.{eqb, ltb, leb}
+use lib.Dec.{eqb, ltb}
 use lib.ListN.{length, take, drop, length-take, length-drop}
 use lib.Seq.{take_at, drop-drop}
-use borrow.Author.Tests.{le-leb, le-ltb, ltb-false, eq-eqb, eqb-true, eqb-false}
-use Rattle.rules.specs.Choice.{if◌then◌else◌, ◌otherwise◌}
-use Rattle.rules.proofs.Choices.{by_bool, passed, passed_by, or_parts, said_yes, if_no, and_yes, not_no}
+use borrow.Author.Tests.{le-leb, le-ltb, ltb-false, eqb-true, eqb-false}
+use Rattle.rules.proofs.Choices.{by_bool, passed, passed_by, said_yes, if_no, and_yes, not_no}
 use Rattle.memory.specs.Memory.{word, word_bytes, store}
 use Rattle.memory.proofs.Parts.{word_from, word_in}
 use Rattle.fcs.specs.CheckSequence.{check_right, check_sequence}
@@ -21,15 +20,15 @@ use Rattle.pieces.specs.Pieces.{pieces_by, pieces, joined}
 use Rattle.pieces.proofs.Joined.{whole}
 use Rattle.pcap.specs.Capture.{Captured, magic, version, zone, accuracy, snap_length, link_type, header_bytes, message, head_bytes, record_bytes, records_bytes, capture_bytes}
 use Rattle.pcap.proofs.Laws.{length_message}
-use Rattle.pcap_list.specs.Entries.{list_bytes, entries_of, of_its_form}
+use Rattle.pcap_list.specs.Entries.{list_bytes, entries_of}
 use Rattle.pcap_export.specs.Export.{frame_fault, first_wrong, export_number, exporting, export}
 use Rattle.pcap_records.specs.Records.{cut_record, unequal_lengths, record_size, records_fault, with_check, captured_of, frames_of}
 use Rattle.pcap_records.proofs.Laws.{fits}
 use Rattle.pcap_records.proofs.Walks.{length_closed}
-use Rattle.pcap_import.specs.Import.{header_fault, imported_frames, import_number}
+use Rattle.pcap_import.specs.Import.{header_fault, imported_frames}
 use Rattle.pcap_import.proofs.Ways.{no_more}
-use Rattle.pcap_forms.specs.Forms.{Sized, Formed, OneForm}
-use Rattle.pcap_forms.proofs.Records.{Exportable, AllExportable}
+use Rattle.pcap_forms.specs.Forms.{Sized, OneForm}
+use Rattle.pcap_forms.proofs.Records.{AllExportable}
 use Rattle.pcap_forms.proofs.Entries.{made_entries, made_form, made_right}
 use Rattle.pcap_forms.proofs.Checks.{accepted}
 use Rattle.pcap_forms.proofs.Back.{exports_all}

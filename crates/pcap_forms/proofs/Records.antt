@@ -1,17 +1,14 @@
 -- Records of frames that may be exported, read again. Assumes nothing.
-use Prim.Native.Nat.{ℕ, ◌+◌, ◌-◌, ◌^◌, ◌≤◌, ◌<◌}
+use Prim.Native.Nat.{ℕ, ◌+◌, ◌^◌, ◌≤◌, ◌<◌}
 use mathlib.Core.Path.{◌≡◌, refl, sym, ap, ap₂, ◌∙◌}
-use mathlib.Core.Bool.{true, false}
+use mathlib.Core.Bool.{true}
 use mathlib.Core.List.{List, [], ◌∷◌, ◌++◌, map, append_assoc}
 use native.Mathlib.Omega.{arith}
-use lib.Dec.{eqb, ltb}
-use lib.ListN.{length, take, drop, length-append, length-take}
-use lib.Seq.{drop_at}
+use lib.ListN.{length, drop, length-append}
 use borrow.Author.Tests.{lt-ltb, le-ltb, eq-eqb}
-use Rattle.rules.specs.Choice.{if◌then◌else◌}
 use Rattle.rules.proofs.Choices.{if_no, or_no, not_no}
 use Rattle.memory.specs.Memory.{word, word_bytes}
-use Rattle.fcs.specs.CheckSequence.{check_right, check_sequence}
+use Rattle.fcs.specs.CheckSequence.{check_right}
 use Rattle.fcs.proofs.Meaning.{right_is_closed_message}
 use Rattle.trace_forms.proofs.Bytewise.{digits}
 use Rattle.pieces.specs.Pieces.{pieces, sizes, joined, behind}

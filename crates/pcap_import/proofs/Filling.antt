@@ -1,5 +1,5 @@
 -- The events and the times put, record by record. Assumes nothing.
-use Prim.Native.Nat.{ℕ, suc, ◌+◌, ◌-◌, ◌*◌, ◌/◌, ◌%◌, ◌^◌, ◌≤◌, ◌<◌}
+use Prim.Native.Nat.{ℕ, ◌+◌, ◌-◌, ◌*◌, ◌^◌, ◌≤◌, ◌<◌}
 use mathlib.Core.Path.{◌≡◌, refl, sym, ap, ◌∙◌}
 use mathlib.Core.List.{List, [], ◌∷◌, ◌++◌, map, append_assoc}
 use native.Mathlib.Omega.{arith}
@@ -9,7 +9,6 @@ use Rattle.memory.specs.Memory.{word, word_bytes, store}
 use Rattle.memory.proofs.Stores.{store_append, length_store, length_word_bytes}
 use Rattle.fcs.specs.CheckSequence.{check_number, check_sequence}
 use Rattle.event.specs.Event.{bytes_of, list_of}
-use Rattle.pieces.specs.Pieces.{pieces}
 use Rattle.pieces.proofs.Turns.{turn, stop, lies, has}
 use Rattle.pcap.specs.Capture.{Captured}
 use Rattle.pcap_records.specs.Records.{record_size, with_check, captured_of, frames_of}

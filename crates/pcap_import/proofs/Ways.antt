@@ -1,24 +1,23 @@
 -- The ways out of the header's test, of what a capture says, and of the import. Assumes nothing.
 use Prim.Native.Nat.{ℕ, ◌+◌, ◌-◌, ◌*◌, ◌≤◌, ◌<◌}
 use mathlib.Core.Path.{◌≡◌, refl, sym, ap, ◌∙◌}
-use mathlib.Core.Bool.{Bool, true, false, not, ◌||◌}
+use mathlib.Core.Bool.{true, false, not}
 use mathlib.Core.List.{List}
 use native.Mathlib.Omega.{arith}
 use lib.Dec.{eqb, ltb}
-use lib.ListN.{length, drop, length-drop}
+use lib.ListN.{length, drop}
 use borrow.Author.Tests.{lt-ltb, le-ltb, eq-eqb, ne_eqb, eqb-true}
-use Rattle.rules.specs.Choice.{if◌then◌else◌, ◌otherwise◌}
+use Rattle.std.specs.Prelude.{if◌then◌else◌}
 use Rattle.rules.proofs.Choices.{by_bool, passed, if_yes, if_no, or_yes, or_last, or_no, said_yes, said_no, not_yes, not_no, passed_by, refused_by, said_eq, said_ne}
 use Rattle.memory.specs.Memory.{word, store}
 use Rattle.pieces.specs.Pieces.{pieces, sizes, behind}
 use Rattle.pieces.proofs.Joined.{all_bytes}
 use Rattle.pieces.proofs.Turns.{stopped}
-use Rattle.pcap.specs.Capture.{Captured, magic, version, link_type}
 use Rattle.pcap_records.specs.declared.Walked.{Walked}
 use Rattle.pcap_records.specs.Records.{cut_record, unequal_lengths, record_size, record_fault, records_fault, frames_of, all_storable, walked}
 use Rattle.pcap_records.proofs.Laws.{fits}
 use Rattle.pcap_import.specs.declared.Imported.{Imported}
-use Rattle.pcap_import.specs.Import.{header_fault, imported_frames, events_of, times_of, too_little, import_number, look, Importing, importing, import}
+use Rattle.pcap_import.specs.Import.{header_fault, imported_frames, events_of, times_of, too_little, import_number, look, importing, import}
 use Rattle.pcap_import.proofs.Lengths.{length_events, length_times}
 
 -- ---- the header

@@ -2,7 +2,8 @@
 -- versions, link types, then, record by record, cut records and unequal lengths, then too little room are refused." Each refusal "takes
 -- its own next number .. as named, is tested in that order and changes nothing" (Wish 4). Assumes nothing.
 use Rattle.std.specs.Prelude.{ℕ, Bool, not, ◌||◌, List, [], ◌∷◌, ◌++◌, map, eqb, ltb, length, drop}
-use Rattle.rules.specs.Choice.{if◌then◌else◌, ◌otherwise◌}
+use Rattle.std.specs.Prelude.{if◌then◌else◌}
+use Rattle.rules.specs.Choice.{◌otherwise◌}
 use Rattle.memory.specs.Memory.{word, word_bytes, store}
 use Rattle.event.specs.Event.{Event, frame, list_of}
 use Rattle.pcap.specs.Capture.{Captured, magic, version, link_type}

@@ -1,11 +1,13 @@
 // A capture imported as frame events, with times beside them (02, Wish 7; docs/CAPTURE.md): first what it says, then the rooms.
+#![tactic(auto)]
+
 mod frames;
 
 ghost use Rattle.std.specs.Prelude.{◌≡◌, drop};
 ghost use Rattle.pcap_import.specs.Import.{header_fault, look, importing, import};
 
 // What a capture gave: 0, how many bytes its events have and how many frames it has; or the number of the refusal and zeros.
-#[derive(Drop)]
+#[derive(Clone, Copy)]
 pub struct Imported {
     pub number: u32,
     pub bytes: usize,

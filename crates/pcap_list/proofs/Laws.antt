@@ -1,22 +1,20 @@
 -- The entry at a place of a list, the walk along the list turn by turn, and an entry as the code puts it. Assumes nothing.
-use Prim.Native.Nat.{ℕ, zero, suc, ◌+◌, ◌-◌, ◌≤◌, ◌<◌}
+use Prim.Native.Nat.{ℕ, suc, ◌+◌, ◌-◌, ◌≤◌, ◌<◌}
 use mathlib.Core.Path.{◌≡◌, refl, sym, ap, ◌∙◌}
-use mathlib.Core.Bool.{Bool, true, false}
+use mathlib.Core.Bool.{false}
 use mathlib.Core.List.{List, [], ◌∷◌, ◌++◌, map}
 use native.Mathlib.Omega.{arith}
 use native.Mathlib.Nat.{add-zero}
 use lib.Dec.{eqb, ltb}
 use lib.ListN.{length, take, drop, length-drop}
-use lib.Seq.{get_or-drop}
-use borrow.Author.Tests.{lt-ltb, le-ltb, ltb-false, eqb-false}
-use Rattle.rules.specs.Choice.{if◌then◌else◌}
-use Rattle.rules.proofs.Choices.{by_bool, by_test}
+use borrow.Author.Tests.{lt-ltb, le-ltb, ltb-false}
+use Rattle.rules.proofs.Choices.{by_test}
 use Rattle.memory.specs.Memory.{word, word_bytes}
 use Rattle.memory.proofs.Parts.{word_from}
 use Rattle.appending.specs.Put.{Put, put}
 use Rattle.pieces.specs.Pieces.{pieces, sizes}
 use Rattle.pieces.proofs.Turns.{Fits, turn, stop, lies, has}
-use Rattle.pcap.specs.Capture.{Captured, head_bytes}
+use Rattle.pcap.specs.Capture.{head_bytes}
 use Rattle.pcap_list.specs.declared.Listed.{Listed}
 use Rattle.pcap_list.specs.Entries.{entry_head, entry_bytes, entry_size, entry_of, entries_of, of_its_form, listed}
 

@@ -1,6 +1,6 @@
 -- docs/CAPTURE.md, "The list of frames": frames, each with its time, as one string of bytes. Assumes nothing.
 use Rattle.std.specs.Prelude.{ℕ, ◌+◌, Bool, List, [], ◌∷◌, ◌++◌, map, eqb, ltb, length, drop}
-use Rattle.rules.specs.Choice.{if◌then◌else◌}
+use Rattle.std.specs.Prelude.{if◌then◌else◌}
 use Rattle.memory.specs.Memory.{word, word_bytes}
 use Rattle.pieces.specs.Pieces.{pieces, sizes}
 use Rattle.pcap.specs.Capture.{Captured}

@@ -1,5 +1,7 @@
 // Frames, each with its time, as one string of bytes (02, Wish 7; docs/CAPTURE.md): the entry at a place, a walk along the list, and an
 // entry put behind others.
+#![tactic(auto)]
+
 ghost use Rattle.std.specs.Prelude.{◌≡◌, drop};
 ghost use Rattle.appending.specs.Put.{put_of, put};
 ghost use Rattle.pcap_list.specs.Entries.{entry_bytes, entry_size, listed};
@@ -8,7 +10,7 @@ ghost use Rattle.pcap_list.specs.Entries.{entry_bytes, entry_size, listed};
 pub const HEAD: usize = 12;
 
 // Whether a list is of its form, and how many whole entries it has.
-#[derive(Drop)]
+#[derive(Clone, Copy)]
 pub struct Listed {
     pub whole: bool,
     pub frames: usize,

@@ -7,7 +7,6 @@ use native.Mathlib.Omega.{arith}
 use lib.Dec.{eqb, ltb}
 use lib.ListN.{length, drop, length-drop}
 use borrow.Author.Tests.{lt-ltb, le-ltb, ltb-false, eq-eqb, ne_eqb}
-use Rattle.rules.specs.Choice.{if◌then◌else◌}
 use Rattle.rules.proofs.Choices.{by_test, if_yes, if_no, or_yes, or_last, or_no, or_parts}
 use Rattle.memory.specs.Memory.{word}
 use Rattle.memory.proofs.Parts.{word_from}

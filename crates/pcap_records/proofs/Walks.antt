@@ -1,5 +1,5 @@
 -- The walk along the records, turn by turn. Assumes nothing.
-use Prim.Native.Nat.{ℕ, suc, ◌+◌, ◌^◌, ◌≤◌, ◌<◌}
+use Prim.Native.Nat.{ℕ, ◌+◌, ◌^◌, ◌≤◌}
 use mathlib.Core.Path.{◌≡◌, refl, sym, ap, ◌∙◌}
 use mathlib.Core.Bool.{Bool, true, false, not, ◌&&◌, true≢false}
 use mathlib.Core.List.{List, [], ◌∷◌, map}
@@ -11,7 +11,7 @@ use borrow.Author.Tests.{lt-ltb, le-ltb, ltb-true, ltb-false}
 use Rattle.rules.proofs.Choices.{by_bool}
 use Rattle.fcs.specs.CheckSequence.{check_sequence}
 use Rattle.fcs.proofs.Meaning.{length_sequence}
-use Rattle.pieces.specs.Pieces.{pieces, sizes, behind}
+use Rattle.pieces.specs.Pieces.{pieces, sizes}
 use Rattle.pieces.proofs.Turns.{turn, stop, lies, has}
 use Rattle.pcap.specs.Capture.{Captured}
 use Rattle.pcap_records.specs.declared.Found.{Found}

@@ -1,7 +1,7 @@
 -- 02, Wish 7, of import: "record by record, cut records and unequal lengths". Here of the bytes of a capture behind its header.
 -- Assumes nothing.
 use Rattle.std.specs.Prelude.{ℕ, ◌+◌, ◌^◌, Bool, true, not, ◌&&◌, ◌||◌, List, [], ◌∷◌, ◌++◌, map, eqb, ltb, length, drop}
-use Rattle.rules.specs.Choice.{if◌then◌else◌}
+use Rattle.std.specs.Prelude.{if◌then◌else◌}
 use Rattle.memory.specs.Memory.{word}
 use Rattle.fcs.specs.CheckSequence.{check_sequence}
 use Rattle.pieces.specs.Pieces.{pieces, behind}

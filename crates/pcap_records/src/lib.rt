@@ -1,10 +1,12 @@
 // The records of a capture, behind its header (02, Wish 7; docs/CAPTURE.md): the one at a place, and a walk along them.
+#![tactic(auto)]
+
 ghost use Rattle.std.specs.Prelude.{◌≡◌, ◌&&◌, ltb, drop};
 ghost use Rattle.pcap_records.specs.Records.{record_size, found, walked};
 
 // What the records are: 0 where all are right, else the number of the first that is wrong; how many are before it, and whether the
 // frame of each of these has a length of 32 bits with its check sequence.
-#[derive(Drop)]
+#[derive(Clone, Copy)]
 pub struct Walked {
     pub number: u32,
     pub frames: usize,
@@ -16,7 +18,7 @@ const LONG: usize = 4_294_967_308;
 
 // What stands at a place: the bytes of a record that is whole and has equal lengths, or 0 and why there is none; both are 0 where no byte
 // is left.
-#[derive(Drop)]
+#[derive(Clone, Copy)]
 struct Found {
     size: usize,
     number: u32,

@@ -1,6 +1,6 @@
 -- Import is refused exactly in the situations named, a refusal changes nothing, and of the header three numbers are not read.
 -- Assumes nothing.
-use Prim.Native.Nat.{ℕ, zero, suc, ◌+◌, ◌*◌, ◌≤◌, ◌<◌}
+use Prim.Native.Nat.{ℕ, zero, suc, ◌+◌, ◌≤◌, ◌<◌}
 use mathlib.Core.Path.{◌≡◌, refl, sym, ap, ◌∙◌}
 use mathlib.Core.Bool.{true, false, not, ◌||◌}
 use mathlib.Core.Logic.{◌⊎◌, inl, inr}
@@ -11,9 +11,8 @@ use lib.Dec.{eqb, ltb}
 use lib.ListN.{length, take, drop, length-take}
 use lib.Seq.{drop-drop}
 use borrow.Author.Tests.{ltb-true, ltb-false, eq-eqb, ne_eqb, eqb-true, eqb-false}
-use Rattle.rules.specs.Choice.{if◌then◌else◌, ◌otherwise◌}
 use Rattle.rules.proofs.Choices.{by_bool, either, or_parts, said_yes, said_no}
-use Rattle.memory.specs.Memory.{word, store}
+use Rattle.memory.specs.Memory.{word}
 use Rattle.memory.proofs.Parts.{word_from, word_in}
 use Rattle.pieces.specs.Pieces.{pieces_by, pieces, behind}
 use Rattle.pieces.proofs.Joined.{together, whole}

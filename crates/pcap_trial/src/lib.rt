@@ -1,5 +1,7 @@
 // Export and import of a capture for programs in other languages, to try and to time them (oracle/, benchmark/). Each puts its answer, as
 // a list of numbers, at the front of `found`.
+#![tactic(auto)]
+
 ghost use Rattle.std.specs.Prelude.{◌≡◌};
 ghost use Rattle.memory.specs.Memory.{store};
 ghost use Rattle.pcap_export.specs.Export.{export};

@@ -1,4 +1,6 @@
 // The firmware's reads of the window, whatever is lent. Each writes its line.
+#![tactic(auto)]
+
 ghost use Rattle.std.specs.Prelude.{◌≡◌};
 ghost use Rattle.text.specs.Text.{written, put};
 ghost use Rattle.commands.specs.Commands.{peek_says, check_says};

@@ -6,7 +6,6 @@ use native.Mathlib.Omega.{arith}
 use lib.Dec.{eqb}
 use lib.ListN.{length, take, drop, length-append, length-take, take-append-drop}
 use lib.Seq.{take_at, drop_at, drop-drop}
-use Rattle.rules.specs.Choice.{if◌then◌else◌}
 use Rattle.rules.proofs.Choices.{by_bool}
 use Rattle.pieces.specs.Pieces.{pieces_by, pieces, sizes, behind, joined}
 use Rattle.pieces.proofs.Turns.{Fits, one_more}

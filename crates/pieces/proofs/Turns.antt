@@ -7,7 +7,6 @@ use lib.Dec.{eqb}
 use lib.ListN.{length, take, drop, length-take, length-drop}
 use lib.Seq.{drop-drop}
 use borrow.Author.Tests.{eq-eqb, ne_eqb, eqb-true, eqb-false}
-use Rattle.rules.specs.Choice.{if◌then◌else◌}
 use Rattle.rules.proofs.Choices.{by_bool}
 use Rattle.pieces.specs.Pieces.{pieces_by, pieces, sizes, behind}
 

@@ -1,7 +1,7 @@
 -- A string of bytes as pieces one behind the other. How long the piece at the front of a string is, the string says itself: `size`
 -- tells it, and is 0 where there is none. Assumes nothing.
 use Rattle.std.specs.Prelude.{ℕ, zero, suc, ◌+◌, List, [], ◌∷◌, ◌++◌, eqb, length, take, drop}
-use Rattle.rules.specs.Choice.{if◌then◌else◌}
+use Rattle.std.specs.Prelude.{if◌then◌else◌}
 
 -- at most n pieces
 unfoldable pub pieces_by : (List ℕ → ℕ) → ℕ → List ℕ → List (List ℕ)

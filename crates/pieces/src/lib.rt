@@ -1,1 +1,3 @@
 // A string of bytes as pieces one behind the other: definitions and laws, no code.
+
+#![tactic(auto)]

@@ -1,5 +1,7 @@
 // The events of a recorded day as calls on a bench, one behind the other (02, Wish 4). A frame is lent from where it lies in the
 // list of bytes, so no event is copied.
+#![tactic(auto)]
+
 ghost use Rattle.std.specs.Prelude.{◌≡◌, drop};
 ghost use Rattle.event.specs.Front.{front, found};
 ghost use Rattle.playback.specs.Playing.{bench_of, acting, act_as, played, play_into};
@@ -9,7 +11,7 @@ use enet::{Answered, Enet};
 use event::Found;
 
 // What an event gave: the number of its call, how many bytes it put at the front of the output, and the next device.
-#[derive(Drop)]
+#[derive(Clone, Copy)]
 pub struct Acted {
     pub number: u32,
     pub count: usize,

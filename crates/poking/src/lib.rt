@@ -1,6 +1,8 @@
 // The firmware's writes to the window, whatever is lent.
+#![tactic(auto)]
+
 ghost use Rattle.std.specs.Prelude.{◌≡◌, length, ◌≤◌};
-ghost use Rattle.rules.specs.Choice.{if◌then◌else◌};
+ghost use Rattle.std.specs.Prelude.{if◌then◌else◌};
 ghost use Rattle.memory.specs.Memory.{store};
 ghost use Rattle.window.specs.Window.{in_window, offset};
 ghost use Rattle.forms.specs.Pairs.{named};

@@ -1,4 +1,6 @@
 // The calls that look at the device. Each writes its line.
+#![tactic(auto)]
+
 ghost use Rattle.std.specs.Prelude.{◌≡◌};
 ghost use Rattle.text.specs.Text.{written, put};
 ghost use Rattle.commands.specs.Commands.{read_says, line_says, show_says, ring_says, state_says, counters_say};

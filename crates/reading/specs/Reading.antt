@@ -1,7 +1,7 @@
 -- 01, "Reading a delivered frame". Each definition takes the window's base and length, the lent memory and a descriptor
 -- address. Assumes nothing.
 use Rattle.std.specs.Prelude.{ℕ, ◌-◌, Bool, not, ◌&&◌, List, [], eqb, take, drop}
-use Rattle.rules.specs.Choice.{if◌then◌else◌}
+use Rattle.std.specs.Prelude.{if◌then◌else◌}
 use Rattle.window.specs.Window.{lent, offset, in_window}
 use Rattle.address.specs.Address.{aligned}
 use Rattle.descriptor.specs.Descriptor.{start}

@@ -1,4 +1,6 @@
 // Reading a delivered frame: its number by one call, and the part of the lent window that holds it by another.
+#![tactic(auto)]
+
 ghost use Rattle.std.specs.Prelude.{◌≡◌};
 ghost use Rattle.reading.specs.Reading.{shown, reading_number, reading};
 

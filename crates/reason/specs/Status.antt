@@ -1,6 +1,6 @@
 -- The packet status word of a delivered frame, by the reason for which it was taken and its length. Assumes nothing.
 use Rattle.std.specs.Prelude.{ℕ, ◌+◌, eqb}
-use Rattle.rules.specs.Choice.{if◌then◌else◌}
+use Rattle.std.specs.Prelude.{if◌then◌else◌}
 use Rattle.reason.specs.declared.Reason.TheVariants.{Broadcast, Group}
 use Rattle.reason.specs.Reason.{reason_number}
 

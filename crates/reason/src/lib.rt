@@ -1,11 +1,13 @@
 // Why a frame was taken: the answers of the address rule, their numbers, and the packet status word of
 // a delivered frame, which has the reason in it.
+#![tactic(auto)]
+
 ghost use Rattle.std.specs.Prelude.{◌≡◌};
 ghost use Rattle.reason.specs.Reason.{reason_number};
 ghost use Rattle.reason.specs.Status.{reason_bits, delivered_status};
 
 // What the address rule answers.
-#[derive(Drop)]
+#[derive(Clone, Copy)]
 pub enum Reason {
     NotTaken,
     Own,

@@ -1,6 +1,6 @@
 -- 01, "A frame in": a receive, over the window's base and length, the registers and the lent memory. Assumes nothing.
 use Rattle.std.specs.Prelude.{ℕ, Bool, List, eqb, length}
-use Rattle.rules.specs.Choice.{if◌then◌else◌}
+use Rattle.std.specs.Prelude.{if◌then◌else◌}
 use Rattle.descriptor.specs.Descriptor.{next_enabled, next_word}
 use Rattle.address_rule.specs.AddressRule.{address_rule}
 use Rattle.frame.specs.Frame.{frame_number_by}

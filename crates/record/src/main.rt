@@ -1,10 +1,14 @@
 // Makes a recorded day of a console script: docs/TRACE.md, "record".
+#![tactic(auto)]
+
 mod messages;
 mod saving;
 
 use lines::Input;
 use recording::Day;
 use saving::{IMAGE, LIST, TRACE};
+use std::io::Read;
+use std::rt::{Env, Files};
 
 // Takes the line that a part of the input ended, where it ended one.
 fn taken(
@@ -21,7 +25,8 @@ fn taken(
 }
 
 // Takes each line of the input.
-fn take_all(
+fn take_all<R: Read>(
+    from: &mut R,
     mut day: Day,
     mut input: Input,
     chunk: &mut [u8; lines::CHUNK],
@@ -31,46 +36,46 @@ fn take_all(
 ) -> Day {
     while input.parts > 0 {
         input = lines::take(input, chunk, line);
-        input = lines::more(input, chunk);
+        input = lines::more(input, from, chunk);
         day = taken(day, input, line, image, list);
     }
     day
 }
 
 // The day of standard input.
-fn day_of(image: &mut [u8; IMAGE], list: &mut [u8; LIST]) -> Day {
+fn day_of<R: Read>(from: &mut R, image: &mut [u8; IMAGE], list: &mut [u8; LIST]) -> Day {
     let mut chunk = [0u8; lines::CHUNK];
     let mut line = [0u8; lines::LINE];
     let day = recording::begin();
     let input = lines::begin();
-    take_all(day, input, &mut chunk, &mut line, image, list)
+    take_all(from, day, input, &mut chunk, &mut line, image, list)
 }
 
 // Says what became of the day. A line that is wrong comes before events without room, wherever it stands.
-fn told(day: Day, image: &[u8; IMAGE], list: &[u8; LIST]) {
+fn told<R: Env + Files + Print>(rt: &R, day: Day, image: &[u8; IMAGE], list: &[u8; LIST]) {
     if day.wrong != 0 {
-        messages::numbered(b"error ", day.wrong);
+        messages::numbered(rt, b"error ", day.wrong);
         return;
     }
     if !day.begun {
-        messages::numbered(b"error ", day.lines);
+        messages::numbered(rt, b"error ", day.lines);
         return;
     }
     if day.full {
-        messages::numbered(b"refused ", answer::BLOCK_ROOM as u64);
+        messages::numbered(rt, b"refused ", answer::BLOCK_ROOM as u64);
         return;
     }
     let mut trace = [0u8; TRACE];
-    saving::saved(day, image, list, &mut trace);
+    saving::saved(rt, day, image, list, &mut trace);
 }
 
-fn main() {
-    if os::arg_count() != 3 {
-        messages::write(b"usage: record TRACE MEMORY < SCRIPT\n");
+fn main(rt: HostRuntime) {
+    if arguments::count(&rt, 4) != 3 {
+        messages::write(&rt, b"usage: record TRACE MEMORY < SCRIPT\n");
         return;
     }
     let mut image = [0u8; IMAGE];
     let mut list = [0u8; LIST];
-    let day = day_of(&mut image, &mut list);
-    told(day, &image, &list);
+    let day = day_of(&mut rt.reader(), &mut image, &mut list);
+    told(&rt, day, &image, &list);
 }

@@ -1,6 +1,7 @@
 // A recorded day as its two files.
 use crate::messages;
 use recording::Day;
+use std::rt::{Env, Files};
 
 // The greatest window.
 pub(crate) const IMAGE: usize = 65536;
@@ -20,7 +21,13 @@ fn size(blocks: usize) -> usize {
 }
 
 // Writes the trace into its room, makes both files and says so.
-pub(crate) fn saved(day: Day, image: &[u8; IMAGE], list: &[u8; LIST], trace: &mut [u8; TRACE]) {
+pub(crate) fn saved<R: Env + Files + Print>(
+    rt: &R,
+    day: Day,
+    image: &[u8; IMAGE],
+    list: &[u8; LIST],
+    trace: &mut [u8; TRACE],
+) {
     let written = trace_writing::write(
         day.base,
         day.window,
@@ -28,16 +35,17 @@ pub(crate) fn saved(day: Day, image: &[u8; IMAGE], list: &[u8; LIST], trace: &mu
         trace,
     );
     if written.number != 0 {
-        messages::numbered(b"refused ", written.number as u64);
+        messages::numbered(rt, b"refused ", written.number as u64);
         return;
     }
     let failed = target_files::make_both(
+        rt,
         1,
         memory::part(trace, 0, size(written.blocks)),
         2,
         memory::part(image, 0, day.window as usize),
     );
     if failed == 0 {
-        messages::counted(b"recorded ", day.events, written.blocks as u64);
+        messages::counted(rt, b"recorded ", day.events, written.blocks as u64);
     }
 }

@@ -1,7 +1,7 @@
 -- A trace that was read of a file: docs/TRACE.md, "A trace that is longer than the program's room is refused by 23, whatever is in it."
 -- Assumes nothing.
 use Rattle.std.specs.Prelude.{ℕ, List, take}
-use Rattle.rules.specs.Choice.{if◌then◌else◌}
+use Rattle.std.specs.Prelude.{if◌then◌else◌}
 use Rattle.trace.specs.Reading.{Reading, refused, reading_of, read}
 use Rattle.recorded_days.specs.declared.Loaded.{Loaded}
 

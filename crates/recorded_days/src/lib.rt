@@ -1,13 +1,16 @@
 // A recorded day as programs take it: the files that their first two arguments name, the trace and the memory image (docs/TRACE.md).
+#![tactic(auto)]
+
 ghost use Rattle.std.specs.Prelude.{◌≤◌, ◌≡◌, length};
 ghost use Rattle.trace.specs.Reading.{reading_of};
 ghost use Rattle.recorded_days.specs.Read.{read_loaded};
 
+use std::rt::{Env, Files};
 use trace::Summary;
 
 // What came of both files: whether they could be read, how many bytes of the trace are at its buffer's front and whether it has more, and
 // how many bytes of the memory image are at the front of its own.
-#[derive(Drop)]
+#[derive(Clone, Copy)]
 pub struct Loaded {
     pub ok: bool,
     pub trace: usize,
@@ -16,10 +19,10 @@ pub struct Loaded {
 }
 
 // Reads both files, or says of the first that cannot be read that it cannot: `error NAME`. Of the image as much is taken as has room.
-pub fn load(trace: &mut [u8], memory: &mut [u8]) -> Loaded
+pub fn load<R: Env + Files + Print>(rt: &R, trace: &mut [u8], memory: &mut [u8]) -> Loaded
     ensures { (result.trace ≤ length trace.new) × (result.memory ≤ length memory.new) }
 {
-    let read = files::load(1, trace);
+    let read = files::load(rt, 1, trace);
     if !read.ok {
         return Loaded {
             ok: false,
@@ -28,7 +31,7 @@ pub fn load(trace: &mut [u8], memory: &mut [u8]) -> Loaded
             memory: 0,
         };
     }
-    let image = files::load(2, memory);
+    let image = files::load(rt, 2, memory);
     Loaded {
         ok: image.ok,
         trace: read.count,

@@ -1,6 +1,6 @@
 -- The bytes of a recorded day: the memory image and the event list, and how a line changes them. Assumes nothing.
 use Rattle.std.specs.Prelude.{ℕ, Bool, ◌&&◌, List, eqb, ltb, length}
-use Rattle.rules.specs.Choice.{if◌then◌else◌}
+use Rattle.std.specs.Prelude.{if◌then◌else◌}
 use Rattle.memory.specs.Memory.{store}
 use Rattle.window.specs.Window.{in_window, offset}
 use Rattle.event.specs.Event.{send, bytes_of}

@@ -1,6 +1,6 @@
 -- A recorded day so far, and how it goes on. Assumes nothing.
 use Rattle.std.specs.Prelude.{ℕ, ◌+◌, ◌-◌, ◌^◌, true, false, ltb}
-use Rattle.rules.specs.Choice.{if◌then◌else◌}
+use Rattle.std.specs.Prelude.{if◌then◌else◌}
 use Rattle.window.specs.Window.{window_allowed}
 use Rattle.recording.specs.declared.Day.{Day}
 

@@ -1,6 +1,6 @@
 -- docs/TRACE.md, "record": a recorded day of a console script, line by line. Assumes nothing.
 use Rattle.std.specs.Prelude.{ℕ, not, ◌||◌, List, eqb}
-use Rattle.rules.specs.Choice.{if◌then◌else◌}
+use Rattle.std.specs.Prelude.{if◌then◌else◌}
 use Rattle.event.specs.Event.{register_write, grant, frame, bytes_of}
 use Rattle.words.specs.Words.{rest}
 use Rattle.forms.specs.Pairs.{named}

@@ -1,6 +1,6 @@
 // The events of a day, each behind those before it.
 ghost use Rattle.std.specs.Prelude.{◌≡◌};
-ghost use Rattle.event.specs.Event.{register_write, grant as a_grant, frame as aFrame, bytes_of};
+ghost use Rattle.event.specs.Event.{register_write, grant as a_grant, frame as a_frame, bytes_of};
 ghost use Rattle.forms.specs.Pairs.{named};
 ghost use Rattle.recording.specs.Bytes.{listed, place, happened, append, send_into};
 
@@ -47,7 +47,7 @@ pub(crate) fn grant(day: Day, address: u32, list: &mut [u8]) -> Day
 
 // A frame of the bytes that a word names.
 pub(crate) fn frame(day: Day, word: &[u8], list: &mut [u8]) -> Day
-    ensures { listed result list.new ≡ append day list.old (bytes_of (aFrame (named word.now))) }
+    ensures { listed result list.new ≡ append day list.old (bytes_of (a_frame (named word.now))) }
 {
     let mut bytes = blank();
     let n = pairs::decode(word, &mut bytes);

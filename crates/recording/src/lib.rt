@@ -1,4 +1,6 @@
 // A console script as a recorded day, line by line (docs/TRACE.md, "record"): the window, the memory image and the event list.
+#![tactic(auto)]
+
 mod events;
 mod firmware;
 mod steps;
@@ -10,7 +12,7 @@ ghost use Rattle.recording.specs.Recording.{recorded, first, later, take};
 use steps::Step;
 
 // A recorded day so far. Its bytes stand in the caller's image and event list.
-#[derive(Drop)]
+#[derive(Clone, Copy)]
 pub struct Day {
     // Whether there is a window,
     pub begun: bool,

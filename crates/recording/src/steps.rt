@@ -5,7 +5,7 @@ ghost use Rattle.recording.specs.Recording.{step_of};
 use script::Command;
 
 // The window, the firmware's writes before the first event, and the events. A day has no other line.
-#[derive(Drop)]
+#[derive(Clone, Copy)]
 pub enum Step {
     New,
     Poke,

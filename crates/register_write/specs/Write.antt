@@ -1,7 +1,7 @@
 -- 01, "Registers": a register write. Assumes nothing.
 use Rattle.std.specs.Prelude.{ℕ, ◌-◌, ◌^◌, Bool, eqb}
 use Rattle.std.specs.Int.Bits.{bit_and}
-use Rattle.rules.specs.Choice.{if◌then◌else◌}
+use Rattle.std.specs.Prelude.{if◌then◌else◌}
 use Rattle.filter.specs.Filter.{with_mcr, with_mah, with_mal, with_mcha, with_mcla}
 use Rattle.engine_write.specs.EngineWrite.{start_written, next_written}
 use Rattle.registers.specs.declared.Registers.{Registers}

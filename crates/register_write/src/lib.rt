@@ -1,4 +1,6 @@
 // A register write: its number, and the registers that it leaves.
+#![tactic(auto)]
+
 ghost use Rattle.std.specs.Prelude.{◌≡◌};
 ghost use Rattle.register_write.specs.Write.{cleared, stored, write_number, write};
 

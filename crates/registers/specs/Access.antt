@@ -1,7 +1,7 @@
 -- 01, "Registers": which register stands at an offset, and a register read. Offsets are those of chapter 8
 -- (docs/REGISTERS.md). Assumes nothing.
 use Rattle.std.specs.Prelude.{ℕ, eqb}
-use Rattle.rules.specs.Choice.{if◌then◌else◌}
+use Rattle.std.specs.Prelude.{if◌then◌else◌}
 use Rattle.registers.specs.declared.Registers.{Registers}
 use Rattle.registers.specs.declared.Found.{Found}
 use Rattle.registers.specs.declared.Register.{Register}

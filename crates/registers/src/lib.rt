@@ -1,4 +1,6 @@
 // The registers of the device and its two engines: their constants, reset, reading, and the interrupt line.
+#![tactic(auto)]
+
 mod access;
 
 ghost use Rattle.std.specs.Prelude.{◌≡◌};
@@ -8,7 +10,7 @@ use engine::Engine;
 use filter::Filter;
 
 // Interrupt status and enable, the filter registers, an engine for each direction with its two registers, and the send time-out.
-#[derive(Drop)]
+#[derive(Clone, Copy)]
 pub struct Registers {
     pub isr: u32,
     pub ier: u32,
@@ -19,7 +21,7 @@ pub struct Registers {
 }
 
 // The modelled registers, and one case for every other offset.
-#[derive(Drop)]
+#[derive(Clone, Copy)]
 pub enum Register {
     Ier,
     Isr,
@@ -37,14 +39,14 @@ pub enum Register {
 }
 
 // A number of the table, and the registers that a call leaves.
-#[derive(Drop)]
+#[derive(Clone, Copy)]
 pub struct Change {
     pub number: u32,
     pub registers: Registers,
 }
 
 // A number of the table, and the value read.
-#[derive(Drop)]
+#[derive(Clone, Copy)]
 pub struct Found {
     pub number: u32,
     pub value: u32,

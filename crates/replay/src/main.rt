@@ -1,8 +1,10 @@
 // Replays a recorded day, and writes what each of its events answered (docs/TRACE.md).
+#![tactic(auto)]
+
 mod day;
 
-use libc::STDOUT_FILENO;
 use recorded_days::Loaded;
+use std::rt::{Env, Files};
 use trace::Summary;
 
 // A trace of 4,096 blocks.
@@ -15,8 +17,12 @@ const EVENTS: usize = 2_064_378;
 const MEMORY: usize = 98_312;
 
 // Both files of the day, each into a buffer of its own.
-fn load(trace: &mut [u8; TRACE], memory: &mut [u8; MEMORY]) -> Loaded {
-    recorded_days::load(trace, memory)
+fn load<R: Env + Files + Print>(
+    rt: &R,
+    trace: &mut [u8; TRACE],
+    memory: &mut [u8; MEMORY],
+) -> Loaded {
+    recorded_days::load(rt, trace, memory)
 }
 
 // What the trace says, and its events in one piece.
@@ -30,15 +36,16 @@ fn first(events: &[u8; EVENTS], n: usize) -> &[u8] {
 }
 
 // Replays a day, or says why not.
-fn replay(loaded: Loaded, trace: &[u8; TRACE], memory: &mut [u8; MEMORY]) {
+fn replay<P: Print>(rt: &P, loaded: Loaded, trace: &[u8; TRACE], memory: &mut [u8; MEMORY]) {
     let mut events = [0u8; EVENTS];
     let summary = read(loaded, trace, &mut events);
     if summary.number != answer::DONE {
-        day::refused(summary.number, summary.block);
+        day::refused(rt, summary.number, summary.block);
         return;
     }
     let n = summary.bytes;
     day::whole_day(
+        rt,
         summary.base,
         summary.window,
         first(&events, n),
@@ -47,15 +54,15 @@ fn replay(loaded: Loaded, trace: &[u8; TRACE], memory: &mut [u8; MEMORY]) {
     );
 }
 
-fn main() {
-    if os::arg_count() != 3 {
-        io::write_all(STDOUT_FILENO, b"usage: replay TRACE MEMORY\n");
+fn main(rt: HostRuntime) {
+    if arguments::count(&rt, 4) != 3 {
+        let _ = println!(rt; "usage: replay TRACE MEMORY");
         return;
     }
     let mut trace = [0u8; TRACE];
     let mut memory = [0u8; MEMORY];
-    let loaded = load(&mut trace, &mut memory);
+    let loaded = load(&rt, &mut trace, &mut memory);
     if loaded.ok {
-        replay(loaded, &trace, &mut memory);
+        replay(&rt, loaded, &trace, &mut memory);
     }
 }

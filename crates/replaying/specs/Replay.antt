@@ -1,7 +1,7 @@
 -- 02, Wish 4: "Replay refuses as reading does, or if the lent answer list is short, with row 1's state; else answers, state,
 -- memory and output are those of direct calls on a new bench of its window, lent the same memory and output." Assumes nothing.
 use Rattle.std.specs.Prelude.{ℕ, List, eqb, ltb, length}
-use Rattle.rules.specs.Choice.{if◌then◌else◌}
+use Rattle.std.specs.Prelude.{if◌then◌else◌}
 use Rattle.memory.specs.Memory.{store}
 use Rattle.event.specs.Walk.{walk}
 use Rattle.stream.specs.Stream.{event_bytes}

@@ -1,4 +1,6 @@
 // A recorded day replayed on a new bench (02, Wish 4).
+#![tactic(auto)]
+
 ghost use Rattle.std.specs.Prelude.{◌≡◌};
 ghost use Rattle.replaying.specs.Replay.{replaying, refusal, replay};
 
@@ -6,7 +8,7 @@ use enet::Enet;
 
 // What a replay gave: 0, how many bytes its events are, how many events, and the device behind them; or the number of its
 // refusal, with the bad block where it is one's.
-#[derive(Drop)]
+#[derive(Clone, Copy)]
 pub struct Replayed {
     pub number: u32,
     pub block: usize,

@@ -1,6 +1,6 @@
 -- The short lines that the console writes. Assumes nothing.
 use Rattle.std.specs.Prelude.{ℕ, Bool, List, ◌++◌}
-use Rattle.rules.specs.Choice.{if◌then◌else◌}
+use Rattle.std.specs.Prelude.{if◌then◌else◌}
 use Rattle.words.specs.Words.{characters}
 use Rattle.fields.specs.Fields.{number, value}
 

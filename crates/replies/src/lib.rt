@@ -1,4 +1,6 @@
 // The short lines that the console writes: words, or a name and one field, and a line feed.
+#![tactic(auto)]
+
 ghost use Rattle.std.specs.Prelude.{◌≡◌};
 ghost use Rattle.text.specs.Text.{written, put};
 ghost use Rattle.replies.specs.Replies.{said, either, numbered, valued};

@@ -1,4 +1,6 @@
 // The longer lines that the console writes: a name, its fields, and a line feed.
+#![tactic(auto)]
+
 ghost use Rattle.std.specs.Prelude.{◌≡◌};
 ghost use Rattle.text.specs.Text.{written, put};
 ghost use Rattle.reports.specs.Reports.{read, held, shown};

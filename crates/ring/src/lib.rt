@@ -1,4 +1,6 @@
 // The ring check: whether following the next words gives a sound ring of descriptors.
+#![tactic(auto)]
+
 ghost use Rattle.std.specs.Prelude.{◌≡◌};
 ghost use Rattle.ring.specs.Ring.{apart_from_rest, ring_from, sound_ring};
 

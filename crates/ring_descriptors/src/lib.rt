@@ -1,4 +1,6 @@
 // The descriptors of a sound ring: one by itself, and two that share no byte.
+#![tactic(auto)]
+
 ghost use Rattle.std.specs.Prelude.{◌≡◌};
 ghost use Rattle.ring_descriptors.specs.RingDescriptors.{sound_descriptor, regions_apart};
 

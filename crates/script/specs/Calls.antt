@@ -1,6 +1,6 @@
 -- The call that a line names: the console's commands, each with its words. Assumes nothing.
 use Rattle.std.specs.Prelude.{ℕ, not, List, ltb, length}
-use Rattle.rules.specs.Choice.{if◌then◌else◌}
+use Rattle.std.specs.Prelude.{if◌then◌else◌}
 use Rattle.forms.specs.declared.numbers.Number.{Number}
 use Rattle.forms.specs.declared.numbers.Number.TheVariants.{Is, Wrong}
 use Rattle.script.specs.declared.Command.{Command}

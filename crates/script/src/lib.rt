@@ -1,5 +1,7 @@
 // A line of the bench console as a call: the commands, each with its words and limits; and which lines say nothing
 // (docs/CONSOLE.md).
+#![tactic(auto)]
+
 ghost use Rattle.std.specs.Prelude.{◌≡◌};
 ghost use Rattle.script.specs.Calls.{no_call, given, alone, with_one, with_two, with_more, call_of};
 ghost use Rattle.script.specs.Silent.{silent};
@@ -10,7 +12,7 @@ use pair_words::pairs_behind;
 use words::{first, is, rest, spaced};
 
 // What is called. `Error` is for a line that is no call.
-#[derive(Drop)]
+#[derive(Clone, Copy)]
 pub enum Command {
     New,
     Lend,
@@ -35,7 +37,7 @@ pub enum Command {
 
 // A command with its numbers in the line's order, 0 where it takes fewer. Bytes stay in the line, and their number stands
 // here; of `burst` the pairs stay there, and theirs does.
-#[derive(Drop)]
+#[derive(Clone, Copy)]
 pub struct Call {
     pub command: Command,
     pub a: u32,

@@ -7,7 +7,8 @@ use native.Mathlib.Omega.{arith}
 use borrow.Author.Tests.{le-leb, lt-ltb, le-ltb, ltb-false}
 use lib.Dec.{leb, ltb, eqb}
 use lib.ListN.{length, take, drop, length-take}
-use Rattle.rules.specs.Choice.{if◌then◌else◌, ◌otherwise◌}
+use Rattle.std.specs.Prelude.{if◌then◌else◌}
+use Rattle.rules.specs.Choice.{◌otherwise◌}
 use Rattle.rules.proofs.Choices.{by_test, and_yes, or_parts, said_yes, said_no, refused_by, passed_by}
 use Rattle.window.specs.Window.{lent, offset}
 use Rattle.descriptor.specs.Descriptor.{count, start}

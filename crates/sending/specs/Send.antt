@@ -1,7 +1,7 @@
 -- 01, "A frame out": the single send, over the window's base and length, the registers, the lent memory and the output.
 -- Assumes nothing.
 use Rattle.std.specs.Prelude.{ℕ, Bool, List, eqb, length}
-use Rattle.rules.specs.Choice.{if◌then◌else◌}
+use Rattle.std.specs.Prelude.{if◌then◌else◌}
 use Rattle.memory.specs.Memory.{store}
 use Rattle.descriptor.specs.Descriptor.{next_enabled, next_word}
 use Rattle.packet_status.specs.PacketStatus.{with_packet_status}

@@ -8,7 +8,6 @@ use lib.Seq.{drop-drop}
 use Rattle.event.specs.Event.{Event, size}
 use Rattle.event.specs.Front.{Front, whole, cut, no_event, front, found}
 use Rattle.event.specs.Sizes.{size_of}
-use Rattle.event.specs.Walk.{walk}
 use Rattle.event.proofs.Ahead.{walk_on}
 use Rattle.event.proofs.Laws.{size_room}
 use Rattle.playback.specs.declared.Acted.{Acted}

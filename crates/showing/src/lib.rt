@@ -1,5 +1,7 @@
 // The events of a replayed day, each with its line, written as they come (docs/TRACE.md, "replay"). Proved is that a day that is shown is
 // the day that is played.
+#![tactic(auto)]
+
 ghost use Rattle.std.specs.Prelude.{◌≡◌, drop};
 ghost use Rattle.event.specs.Front.{front, found};
 ghost use Rattle.showing.specs.Showing.{left, next, shown, shown_over};
@@ -7,7 +9,8 @@ ghost use Rattle.showing.specs.Showing.{left, next, shown, shown_over};
 use day_lines::Day;
 
 // The event at a place, and its line.
-fn event(
+fn event<P: Print>(
+    rt: &P,
     day: Day,
     events: &[u8],
     place: usize,
@@ -19,7 +22,7 @@ fn event(
 {
     let found = event::at(events, place);
     let acted = playback::act(day.device, memory, output, events, found);
-    let waiting = day_lines::write_past(day_lines::MOST, text, day.waiting);
+    let waiting = day_lines::write_past(rt, day_lines::MOST, text, day.waiting);
     let sent = memory::part(output, 0, acted.count);
     let end = day_reports::event(text, waiting, found, acted.number, sent);
     let device = acted.device;
@@ -30,14 +33,21 @@ fn event(
 }
 
 // All events of a list, one behind the other.
-fn all(begun: Day, events: &[u8], memory: &mut [u8], output: &mut [u8], text: &mut [u8]) -> Day
+fn all<P: Print>(
+    rt: &P,
+    begun: Day,
+    events: &[u8],
+    memory: &mut [u8],
+    output: &mut [u8],
+    text: &mut [u8],
+) -> Day
     ensures { left result memory.new output.new ≡ shown (left begun memory.old output.old) events.now }
 {
     let mut day = begun;
     let mut place = 0;
     let mut n = event::size_at(events, 0);
     while n != 0 {
-        day = event(day, events, place, memory, output, text);
+        day = event(rt, day, events, place, memory, output, text);
         place += n;
         n = event::size_at(events, place);
     }
@@ -45,7 +55,8 @@ fn all(begun: Day, events: &[u8], memory: &mut [u8], output: &mut [u8], text: &m
 }
 
 // All events of a list, over the first bytes of the memory.
-pub fn all_lent(
+pub fn all_lent<P: Print>(
+    rt: &P,
     begun: Day,
     events: &[u8],
     memory: &mut [u8],
@@ -56,5 +67,5 @@ pub fn all_lent(
     ensures { left result memory.new output.new ≡ shown_over begun memory.old lent output.old events.now }
 {
     let k = commands::within(lent, memory.len());
-    all(begun, events, &mut memory[..k], output, text)
+    all(rt, begun, events, &mut memory[..k], output, text)
 }

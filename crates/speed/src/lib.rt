@@ -1,5 +1,7 @@
 // The device's calls in rounds, for C to time (benchmark/). The loops stand here so that a measurement is of the
 // proved calls as they call each other, and not of the boundary to C.
+#![tactic(auto)]
+
 ghost use Rattle.std.specs.Prelude.{◌≡◌};
 ghost use Rattle.enet.specs.Device.{outcome};
 ghost use Rattle.enet.specs.Send.{sending};

@@ -1,6 +1,6 @@
 -- 01, "Histories": the steps of a list, and what a list of them has done so far. Assumes nothing.
 use Rattle.std.specs.Prelude.{ℕ, ◌+◌, ◌≤◌, ◌<◌, List, [], ◌∷◌, ◌++◌, eqb, length}
-use Rattle.rules.specs.Choice.{if◌then◌else◌}
+use Rattle.std.specs.Prelude.{if◌then◌else◌}
 use Rattle.memory.specs.Memory.{store}
 use Rattle.frame.specs.Frame.{frame_number}
 use Rattle.calls.specs.Calls.{Bench, Call, Result, answered, call}

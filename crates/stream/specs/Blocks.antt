@@ -1,6 +1,6 @@
 -- 02, Wish 4: "A trace is blocks of 512 bytes". Assumes nothing.
 use Rattle.std.specs.Prelude.{ℕ, zero, suc, ◌+◌, ◌*◌, ◌/◌, ◌<◌, ◌≡◌, Bool, List, eqb, length, take, drop}
-use Rattle.rules.specs.Choice.{if◌then◌else◌}
+use Rattle.std.specs.Prelude.{if◌then◌else◌}
 use Rattle.block.specs.Faults.{block_fault}
 use Rattle.stream.specs.declared.Fault.{Fault}
 

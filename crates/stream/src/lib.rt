@@ -1,5 +1,7 @@
 // The blocks of a trace one behind the other (02, Wish 4): how many there are, the first that is wrong by itself, and the events
 // in them as one string of bytes.
+#![tactic(auto)]
+
 ghost use Rattle.std.specs.Prelude.{◌-◌, ◌≡◌, length, drop};
 ghost use Rattle.memory.specs.Memory.{store};
 ghost use Rattle.block.specs.Fields.{used_data};
@@ -10,7 +12,7 @@ ghost use Rattle.stream.specs.Stream.{header_length, event_bytes};
 pub const HEADER: usize = 6;
 
 // A bad block, and the number of its fault; with 0 none, and of `first_fault` then the place behind the blocks.
-#[derive(Drop)]
+#[derive(Clone, Copy)]
 pub struct Fault {
     pub number: u32,
     pub block: usize,

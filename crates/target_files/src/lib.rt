@@ -1,38 +1,47 @@
 // Files that arguments of the program name, made: one, or two together or not at all. Where one cannot be made, that is said on standard
 // output: `error NAME`. What the system's calls do is assumed; proved is that each function is safe and ends, and what its contract says
 // of its answer.
+#![tactic(auto)]
+
 ghost use Rattle.std.specs.Prelude.{◌≤◌};
 
 use arguments::WORD;
+use std::rt::{Env, Files};
 
 // Makes the file of a name, and where it cannot be made says so.
-fn make_or_say(path: &[u8], bytes: &[u8]) -> u32
+fn make_or_say<R: Files + Print>(rt: &R, path: &[u8], bytes: &[u8]) -> u32
     ensures { result ≤ 1 }
 {
-    let lacking = new_files::make(path, bytes);
+    let lacking = new_files::make(rt, path, bytes);
     if lacking == 1 {
-        arguments::wrong(path);
+        arguments::wrong(rt, path);
     }
     lacking
 }
 
 // Makes the files of two names, or none, and where one cannot be made says so.
-fn make_both_or_say(first: &[u8], a: &[u8], second: &[u8], b: &[u8]) -> u32
+fn make_both_or_say<R: Files + Print>(
+    rt: &R,
+    first: &[u8],
+    a: &[u8],
+    second: &[u8],
+    b: &[u8],
+) -> u32
     ensures { result ≤ 2 }
 {
-    let failed = new_files::make_both(first, a, second, b);
+    let failed = new_files::make_both(rt, first, a, second, b);
     if failed == 1 {
-        arguments::wrong(first);
+        arguments::wrong(rt, first);
     }
     if failed == 2 {
-        arguments::wrong(second);
+        arguments::wrong(rt, second);
     }
     failed
 }
 
 // Puts an argument at the front of a buffer, and answers its length.
-fn argument(i: usize, name: &mut [u8; WORD]) -> usize {
-    arguments::fetch(i, name)
+fn argument<R: Env>(rt: &R, i: usize, name: &mut [u8; WORD]) -> usize {
+    arguments::fetch(rt, i, name)
 }
 
 // The name of so many characters.
@@ -41,22 +50,28 @@ fn named(name: &[u8; WORD], n: usize) -> &[u8] {
 }
 
 // Makes the file that an argument names. Answers 0 where it is made, 1 where it cannot be.
-pub fn make(i: usize, bytes: &[u8]) -> u32
+pub fn make<R: Env + Files + Print>(rt: &R, i: usize, bytes: &[u8]) -> u32
     ensures { result ≤ 1 }
 {
     let mut name = [0u8; WORD];
-    let n = argument(i, &mut name);
-    make_or_say(named(&name, n), bytes)
+    let n = argument(rt, i, &mut name);
+    make_or_say(rt, named(&name, n), bytes)
 }
 
 // Makes the files that two arguments name. Answers 0 where both are made, 1 where the first cannot be, 2 where the second cannot be;
 // then neither is.
-pub fn make_both(first: usize, a: &[u8], second: usize, b: &[u8]) -> u32
+pub fn make_both<R: Env + Files + Print>(
+    rt: &R,
+    first: usize,
+    a: &[u8],
+    second: usize,
+    b: &[u8],
+) -> u32
     ensures { result ≤ 2 }
 {
     let mut one = [0u8; WORD];
-    let n = argument(first, &mut one);
+    let n = argument(rt, first, &mut one);
     let mut two = [0u8; WORD];
-    let k = argument(second, &mut two);
-    make_both_or_say(named(&one, n), a, named(&two, k), b)
+    let k = argument(rt, second, &mut two);
+    make_both_or_say(rt, named(&one, n), a, named(&two, k), b)
 }

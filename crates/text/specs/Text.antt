@@ -1,6 +1,6 @@
 -- Text behind text in a lent buffer: what has no room is not written. Assumes nothing.
 use Rattle.std.specs.Prelude.{ℕ, ◌+◌, List, leb, length}
-use Rattle.rules.specs.Choice.{if◌then◌else◌}
+use Rattle.std.specs.Prelude.{if◌then◌else◌}
 use Rattle.memory.specs.Memory.{store}
 
 -- a buffer, and where the text in it ends

@@ -1,7 +1,7 @@
 -- 02, Wish 9: "a tick call for the send time-out", over the window's base and length, the registers, the count and the lent
 -- memory. Assumes nothing.
 use Rattle.std.specs.Prelude.{ℕ, ◌+◌, Bool, not, ◌&&◌, List, eqb, ltb}
-use Rattle.rules.specs.Choice.{if◌then◌else◌}
+use Rattle.std.specs.Prelude.{if◌then◌else◌}
 use Rattle.window.specs.Window.{lent, in_window}
 use Rattle.packet_status.specs.PacketStatus.{granted}
 use Rattle.registers.specs.declared.Registers.{Registers}

@@ -1,11 +1,13 @@
 // The send time-out (02, Wish 9): a tick, and what a register write does to the count of ticks.
+#![tactic(auto)]
+
 ghost use Rattle.std.specs.Prelude.{◌≡◌};
 ghost use Rattle.ticking.specs.Tick.{leaves, stalled, counted, tick, after_write};
 
 use registers::Registers;
 
 // A number of the table, and the registers and the count that a tick leaves.
-#[derive(Drop)]
+#[derive(Clone, Copy)]
 pub struct Ticked {
     pub number: u32,
     pub registers: Registers,

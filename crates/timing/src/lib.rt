@@ -1,4 +1,6 @@
 // What the rounds that the benchmark times share: the bench that they begin with, and the count of what was done.
+#![tactic(auto)]
+
 ghost use Rattle.std.specs.Prelude.{◌≡◌, ◌≤◌};
 ghost use Rattle.timing.specs.Timing.{waiting, bench, passed};
 

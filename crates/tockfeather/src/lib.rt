@@ -1,7 +1,9 @@
 // The frame check and the address rule for C (include/tockfeather.h). A slice passes as its address
 // and its length.
+#![tactic(auto)]
+
 ghost use Rattle.std.specs.Prelude.{◌≡◌};
-ghost use Rattle.rules.specs.Choice.{if◌then◌else◌};
+ghost use Rattle.std.specs.Prelude.{if◌then◌else◌};
 ghost use Rattle.fcs.specs.CheckSequence.{check_right};
 ghost use Rattle.filter.specs.Filter.{filter_of};
 ghost use Rattle.address_rule.specs.AddressRule.{address_rule};

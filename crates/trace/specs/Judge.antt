@@ -1,7 +1,8 @@
 -- 02, Wish 4: "the first bad block with its reason, tested in the order length of block, number, check, used length, zero fill,
 -- event". Assumes nothing.
 use Rattle.std.specs.Prelude.{ℕ, zero, suc, ◌+◌, Bool, true, false, not, ◌||◌, List, eqb, ltb, length}
-use Rattle.rules.specs.Choice.{if◌then◌else◌, ◌otherwise◌}
+use Rattle.std.specs.Prelude.{if◌then◌else◌}
+use Rattle.rules.specs.Choice.{◌otherwise◌}
 use Rattle.window.specs.Window.{window_allowed}
 use Rattle.event.specs.Walk.{walk}
 use Rattle.event.specs.declared.Ending.{Ending}

@@ -1,7 +1,7 @@
 -- 02, Wish 4: "Reading gives the window and events or the first bad block with its reason .. or last refuses too little room."
 -- Each refusal "changes nothing". Assumes nothing.
 use Rattle.std.specs.Prelude.{ℕ, List, eqb, ltb, length}
-use Rattle.rules.specs.Choice.{if◌then◌else◌}
+use Rattle.std.specs.Prelude.{if◌then◌else◌}
 use Rattle.memory.specs.Memory.{store}
 use Rattle.event.specs.Walk.{walk}
 use Rattle.stream.specs.Blocks.{block_count}

@@ -1,4 +1,6 @@
 // A trace read: the window and the events, or the first bad block with its reason (02, Wish 4).
+#![tactic(auto)]
+
 mod scattered;
 
 ghost use Rattle.std.specs.Prelude.{◌+◌, ◌^◌, ◌≤◌, ◌<◌, ◌≡◌, length};
@@ -16,7 +18,7 @@ use stream::{Fault, HEADER};
 
 // What a trace says: 0, the window, how many bytes its events are and how many events; or the number of the refusal, with the bad
 // block where it is one's, and zeros.
-#[derive(Drop)]
+#[derive(Clone, Copy)]
 pub struct Summary {
     pub number: u32,
     pub block: usize,

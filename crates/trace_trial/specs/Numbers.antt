@@ -1,6 +1,6 @@
 -- What reading, writing and replay answer, as lists of numbers. Assumes nothing.
 use Rattle.std.specs.Prelude.{ℕ, Bool, List, [], ◌∷◌, ◌++◌}
-use Rattle.rules.specs.Choice.{if◌then◌else◌}
+use Rattle.std.specs.Prelude.{if◌then◌else◌}
 use Rattle.memory.specs.Memory.{store}
 use Rattle.engine.specs.declared.Engine.{Engine}
 use Rattle.counters.specs.declared.Counters.{Counters}

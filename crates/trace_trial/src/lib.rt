@@ -1,5 +1,7 @@
 // Reading, writing and replay of a trace for programs in other languages, to try and to time them (oracle/, benchmark/). Each puts
 // its answer, as a list of numbers, at the front of `found`.
+#![tactic(auto)]
+
 ghost use Rattle.std.specs.Prelude.{◌≡◌};
 ghost use Rattle.memory.specs.Memory.{store};
 ghost use Rattle.trace.specs.Reading.{read};

@@ -2,7 +2,7 @@
 -- or if over 65,536 blocks or more room than lent is needed"; each refusal "takes its own next number .. as named, is tested in
 -- that order and changes nothing". Assumes nothing.
 use Rattle.std.specs.Prelude.{ℕ, ◌+◌, ◌*◌, Bool, true, false, not, List, eqb, ltb, length}
-use Rattle.rules.specs.Choice.{if◌then◌else◌}
+use Rattle.std.specs.Prelude.{if◌then◌else◌}
 use Rattle.memory.specs.Memory.{store}
 use Rattle.window.specs.Window.{window_allowed}
 use Rattle.event.specs.Walk.{walk}

@@ -1,4 +1,6 @@
 // A trace written of a window and an event list (02, Wish 4; docs/TRACE.md): first the number, then the blocks.
+#![tactic(auto)]
+
 mod blocks;
 
 ghost use Rattle.std.specs.Prelude.{◌+◌, ◌≡◌};
@@ -8,7 +10,7 @@ ghost use Rattle.trace_writing.specs.Writing.{is_whole, write_number, writing_of
 use event::Ending;
 
 // A trace that was written: 0 and how many blocks, or the number of the refusal and none.
-#[derive(Drop)]
+#[derive(Clone, Copy)]
 pub struct Written {
     pub number: u32,
     pub blocks: usize,

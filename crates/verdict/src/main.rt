@@ -1,7 +1,11 @@
 // Reads one raw frame from standard input, at most 1,519 bytes, and writes how many bytes it took
 // and the first of the refusals 4, 5 and 6 that the frame meets, or 0.
+#![tactic(auto)]
+
+ghost use Rattle.std.specs.Prelude.{◌+◌, ◌≤◌, length};
 
 use filter::Filter;
+use std::io::Read;
 
 // Receive-all and all-multicast off.
 const CONTROL: u32 = 0;
@@ -11,16 +15,36 @@ const STATION_HIGH: u32 = 0x0000_0100;
 
 const STATION_LOW: u32 = 0x0000_0002;
 
-fn write_line(label: &[u8], value: u64) {
-    io::write_all(1, label);
-    io::print_decimal(1, value);
-    io::write_all(1, b"\n");
+// One read into the buffer behind so many bytes, and how many came. One that fails gives none, as at the input's end.
+fn read_more<R: Read>(from: &mut R, buffer: &mut [u8], done: usize) -> usize
+    requires { done ≤ length buffer.old }
+    ensures { done + result ≤ length buffer.new }
+{
+    match from.read(&mut buffer[done..]) {
+        Ok(n) => n,
+        Err(_) => 0,
+    }
 }
 
-fn main() {
+// Reads until the buffer is full or the input ends, and answers how many bytes are at the buffer's front.
+fn read_full<R: Read>(from: &mut R, buffer: &mut [u8]) -> usize
+    ensures { result ≤ length buffer.new }
+{
+    let mut done = 0;
+    while done < buffer.len() {
+        let n = read_more(from, buffer, done);
+        if n == 0 {
+            return done;
+        }
+        done += n;
+    }
+    done
+}
+
+fn main(rt: HostRuntime) {
     // One byte more than the longest frame, so that a longer input is seen to be too long.
     let mut input = [0u8; 1519];
-    let n = io::read_full(0, &mut input);
+    let n = read_full(&mut rt.reader(), &mut input);
     let filter = Filter {
         mcr: CONTROL,
         mah: STATION_HIGH,
@@ -30,6 +54,6 @@ fn main() {
     };
     let reason = address_rule::apply(filter, &input[..n]);
     let number = frame::frame_number(reason, &input[..n]);
-    write_line(b"length ", n as u64);
-    write_line(b"verdict ", number as u64);
+    let _ = println!(rt; "length {n}");
+    let _ = println!(rt; "verdict {number}");
 }

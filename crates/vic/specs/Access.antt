@@ -1,7 +1,7 @@
 -- 02, Wish 8: a register of the pair read and written, with what the current vector address takes into service and ends.
 -- Assumes nothing.
 use Rattle.std.specs.Prelude.{ℕ, ◌%◌, Bool, ◌&&◌, List, eqb, ltb, leb}
-use Rattle.rules.specs.Choice.{if◌then◌else◌}
+use Rattle.std.specs.Prelude.{if◌then◌else◌}
 use Rattle.vic_controller.specs.declared.Controller.{Controller}
 use Rattle.vic_registers.specs.Access.{register_at, access_number, value_of}
 use Rattle.vic_write.specs.Write.{written}

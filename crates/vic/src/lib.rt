@@ -1,5 +1,7 @@
 // The two interrupt controllers of RM0006, chapter 4, beside the device: a register read and written, with what the current vector
 // address takes into service and ends. The pair's state is vic_pair's, its answer vic_answer's.
+#![tactic(auto)]
+
 ghost use Rattle.std.specs.Prelude.{◌≡◌};
 ghost use Rattle.vic.specs.Access.{controller_of, with_controller, levels_of, came_from, with_service, vector_of, read_vector, write_vector, read, write};
 
@@ -9,7 +11,7 @@ use vic_registers::Register;
 use vic_service::{RANKS, RANKS_EACH, Service};
 
 // A number of the table, the value read, and the pair that is left.
-#[derive(Drop)]
+#[derive(Clone, Copy)]
 pub struct Found {
     pub number: u32,
     pub value: u32,
@@ -17,7 +19,7 @@ pub struct Found {
 }
 
 // A number of the table, and the pair that is left.
-#[derive(Drop)]
+#[derive(Clone, Copy)]
 pub struct Change {
     pub number: u32,
     pub vics: Vics,

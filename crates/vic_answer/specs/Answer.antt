@@ -1,6 +1,6 @@
 -- 02, Wish 8: the IRQ answer. The ranks of both controllers run from 0 to 63, and the lower comes first. Assumes nothing.
 use Rattle.std.specs.Prelude.{ℕ, ◌+◌, ◌-◌, ◌%◌, Bool, ltb, get_or}
-use Rattle.rules.specs.Choice.{if◌then◌else◌}
+use Rattle.std.specs.Prelude.{if◌then◌else◌}
 use Rattle.vic_controller.specs.declared.Controller.{Controller}
 use Rattle.vic_controller.specs.Controller.{irq_status}
 use Rattle.vic_rank.specs.Rank.{lowest_rank}

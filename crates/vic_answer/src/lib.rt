@@ -1,4 +1,6 @@
 // The IRQ answer of the two interrupt controllers.
+#![tactic(auto)]
+
 ghost use Rattle.std.specs.Prelude.{◌/◌, ◌%◌, ◌≡◌};
 ghost use Rattle.vic_answer.specs.Answer.{raised_in, raised_rank, vector_at, input_at, irq};
 
@@ -7,7 +9,7 @@ use vic_pair::{Inputs, Vics, Which};
 use vic_service::RANKS_EACH;
 
 // The answer: the request's controller, its input and its vector; or none.
-#[derive(Drop)]
+#[derive(Clone, Copy)]
 pub enum Interrupt {
     None,
     Request(Which, u32, u32),

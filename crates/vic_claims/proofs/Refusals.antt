@@ -128,7 +128,7 @@ pub refused_leaves : RefusedLeaves
 refused_leaves =
     record {
       read_number = λ v i w o. read_two v w o i;
-      write_number_lem = λ v w o x. write_two v w o x;
+      write_number = λ v w o x. write_two v w o x;
       read_value = λ v i w o h.
           read_refused v w o i h
           (λ e u. ap (λ (r : Found). r.value) (read_other v w o i e) ∙ ap (value_of (controller_of v w) (levels_of i w)) u);

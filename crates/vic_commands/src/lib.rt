@@ -1,4 +1,6 @@
 // The console's commands of the interrupt controllers. Each writes its line.
+#![tactic(auto)]
+
 ghost use Rattle.std.specs.Prelude.{◌≡◌};
 ghost use Rattle.vic_commands.specs.VicCommands.{reset, which_of, levels_set, vread, vwrite, inputs, irq, fiq, answer_to, given, tells};
 
@@ -6,14 +8,14 @@ use vic_pair::{Inputs, Vics, Which};
 use vic_script::{VicCall, VicCommand};
 
 // Both controllers, and the levels that `inputs` set.
-#[derive(Drop)]
+#[derive(Clone, Copy)]
 pub struct Controllers {
     pub vics: Vics,
     pub inputs: Inputs,
 }
 
 // The controllers that a command leaves, and where the text in the lent buffer ends.
-#[derive(Drop)]
+#[derive(Clone, Copy)]
 pub struct VicTold {
     pub controllers: Controllers,
     pub end: usize,

@@ -1,11 +1,13 @@
 // One of the two interrupt controllers by itself (RM0006, chapter 4): what it holds, the constants of its registers, reset, and its
 // status words. Not modelled: the modes of the CPU, which the protection bit is for.
+#![tactic(auto)]
+
 ghost use Rattle.std.specs.Prelude.{◌≡◌, get_or};
 ghost use Rattle.vic_controller.specs.Controller.{reset, irq_status, fiq_status};
 
 // Software interrupts, enable and selection with a bit for each input, protection, the default vector, and the vector addresses
 // and vector controls of the sixteen slots.
-#[derive(Drop)]
+#[derive(Clone, Copy)]
 pub struct Controller {
     pub software: u16,
     pub enable: u16,

@@ -1,4 +1,6 @@
 // The line that tells the IRQ answer (docs/CONSOLE.md).
+#![tactic(auto)]
+
 ghost use Rattle.std.specs.Prelude.{◌≡◌};
 ghost use Rattle.text.specs.Text.{written, put};
 ghost use Rattle.vic_lines.specs.VicLines.{irq_says};

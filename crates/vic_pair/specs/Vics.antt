@@ -2,7 +2,7 @@
 -- them, and FIQ. Assumes nothing.
 use Rattle.std.specs.Prelude.{ℕ, ◌-◌, ◌^◌, Bool, not, ◌||◌, List, eqb}
 use Rattle.std.specs.Int.Bits.{bit_and, bit_or}
-use Rattle.rules.specs.Choice.{if◌then◌else◌}
+use Rattle.std.specs.Prelude.{if◌then◌else◌}
 use Rattle.vic_controller.specs.declared.Controller.{Controller}
 use Rattle.vic_controller.specs.Controller.{reset as reset_controller, fiq_status}
 use Rattle.vic_service.specs.Service.{idle}

@@ -1,5 +1,7 @@
 // The two interrupt controllers as a pair (RM0006, chapter 4): their state and reset, their inputs with ENET's line among them, and
 // FIQ.
+#![tactic(auto)]
+
 ghost use Rattle.std.specs.Prelude.{◌≡◌};
 ghost use Rattle.vic_pair.specs.Vics.{reset, low, with_line, fiq};
 
@@ -7,7 +9,7 @@ use vic_controller::Controller;
 use vic_service::Service;
 
 // Both controllers, and the ranks in service: those of VIC0 up to 31, those of VIC1 from 32 on.
-#[derive(Drop)]
+#[derive(Clone, Copy)]
 pub struct Vics {
     pub vic0: Controller,
     pub vic1: Controller,
@@ -15,14 +17,14 @@ pub struct Vics {
 }
 
 // The levels of the sixteen inputs of each controller, input n at bit n.
-#[derive(Drop)]
+#[derive(Clone, Copy)]
 pub struct Inputs {
     pub vic0: u16,
     pub vic1: u16,
 }
 
 // One of the two.
-#[derive(Drop)]
+#[derive(Clone, Copy)]
 pub enum Which {
     Vic0,
     Vic1,

@@ -1,7 +1,7 @@
 -- 02, Wish 8: the order of the requests of one controller. A rank is a number from 0 to 31, and the lower comes first.
 -- Assumes nothing.
 use Rattle.std.specs.Prelude.{ℕ, zero, suc, ◌+◌, ◌%◌, min, Bool, ◌&&◌, List, eqb, ltb}
-use Rattle.rules.specs.Choice.{if◌then◌else◌}
+use Rattle.std.specs.Prelude.{if◌then◌else◌}
 use Rattle.rules.specs.Bit.{bit}
 use Rattle.first_where.specs.First.{first_where}
 

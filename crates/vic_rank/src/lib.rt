@@ -1,6 +1,8 @@
 // The order of the requests of one interrupt controller: an input's rank, and the lowest rank that is raised.
+#![tactic(auto)]
+
 ghost use Rattle.std.specs.Prelude.{min, ◌<◌, ◌≡◌};
-ghost use Rattle.rules.specs.Choice.{if◌then◌else◌};
+ghost use Rattle.std.specs.Prelude.{if◌then◌else◌};
 ghost use Rattle.rules.specs.Bit.{bit};
 ghost use Rattle.vic_rank.specs.Rank.{names, slot_of, rank_in, lowest_rank};
 

@@ -1,7 +1,7 @@
 -- 02, Wish 8: which register of a controller stands at an offset, and what it reads as. Offsets are those of chapter 4
 -- (docs/REGISTERS.md). Assumes nothing.
 use Rattle.std.specs.Prelude.{ℕ, ◌+◌, ◌-◌, ◌/◌, ◌%◌, Bool, ◌&&◌, eqb, ltb, leb, get_or}
-use Rattle.rules.specs.Choice.{if◌then◌else◌}
+use Rattle.std.specs.Prelude.{if◌then◌else◌}
 use Rattle.vic_controller.specs.declared.Controller.{Controller}
 use Rattle.vic_registers.specs.declared.Register.{Register}
 use Rattle.vic_registers.specs.declared.Register.TheVariants.{

@@ -1,4 +1,6 @@
 // The registers of an interrupt controller: which stands at an offset, and what it reads as.
+#![tactic(auto)]
+
 ghost use Rattle.std.specs.Prelude.{◌≡◌};
 ghost use Rattle.vic_registers.specs.Access.{slot_at, slot_of, register_at, access_number, value_of};
 
@@ -6,7 +8,7 @@ use vic_controller::Controller;
 
 // The registers of a controller by itself, those of a slot by its number, and one case for every other offset. The current vector
 // address is not among them: what a read or a write of it does goes by both controllers.
-#[derive(Drop)]
+#[derive(Clone, Copy)]
 pub enum Register {
     IrqStatus,
     FiqStatus,

@@ -1,6 +1,6 @@
 -- docs/CONSOLE.md: the lines that call the interrupt controllers, each with its words. Assumes nothing.
 use Rattle.std.specs.Prelude.{ℕ, not, List}
-use Rattle.rules.specs.Choice.{if◌then◌else◌}
+use Rattle.std.specs.Prelude.{if◌then◌else◌}
 use Rattle.forms.specs.declared.numbers.Number.{Number}
 use Rattle.forms.specs.declared.numbers.Number.TheVariants.{Is, Wrong}
 use Rattle.forms.specs.Numbers.{hexadecimal}

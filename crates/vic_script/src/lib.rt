@@ -1,4 +1,6 @@
 // A line of the bench console as a call of the interrupt controllers (docs/CONSOLE.md).
+#![tactic(auto)]
+
 ghost use Rattle.std.specs.Prelude.{◌≡◌};
 ghost use Rattle.vic_script.specs.VicCalls.{given, vic_of, alone, write_of, with_words, vic_call_of};
 
@@ -6,7 +8,7 @@ use forms::numbers::{Number, hexadecimal};
 use words::{first, is, rest, spaced};
 
 // What is called.
-#[derive(Drop)]
+#[derive(Clone, Copy)]
 pub enum VicCommand {
     Read,
     Write,
@@ -16,7 +18,7 @@ pub enum VicCommand {
 }
 
 // A command with its controller and its numbers in the line's order, 0 where it takes fewer.
-#[derive(Drop)]
+#[derive(Clone, Copy)]
 pub struct VicCall {
     pub command: VicCommand,
     pub vic: u32,
@@ -25,7 +27,7 @@ pub struct VicCall {
 }
 
 // A line that calls the controllers, or another.
-#[derive(Drop)]
+#[derive(Clone, Copy)]
 pub enum VicLine {
     Calls(VicCall),
     Other,

@@ -1,4 +1,6 @@
 // The requests in service, by rank: the last taken, one taken, one ended.
+#![tactic(auto)]
+
 ghost use Rattle.std.specs.Prelude.{◌≡◌};
 ghost use Rattle.vic_service.specs.Service.{taken, ended, last_taken};
 

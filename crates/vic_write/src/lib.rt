@@ -1,4 +1,6 @@
 // A register of an interrupt controller written.
+#![tactic(auto)]
+
 ghost use Rattle.std.specs.Prelude.{◌≡◌, set};
 ghost use Rattle.vic_write.specs.Write.{with_addresses, with_controls, low_half, bits_set, bits_cleared, control_kept, written};
 

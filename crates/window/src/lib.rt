@@ -1,5 +1,7 @@
 // The window on plain numbers and lent memory: what every call tests before it acts. An address below the base counts as
 // the base.
+#![tactic(auto)]
+
 ghost use Rattle.std.specs.Prelude.{◌≡◌};
 ghost use Rattle.window.specs.Window.{window_allowed, lent, offset, in_window, holds_descriptor};
 

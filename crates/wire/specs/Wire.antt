@@ -1,6 +1,6 @@
 -- 01, "A frame out": the bytes that a single send puts on the wire. Assumes nothing.
 use Rattle.std.specs.Prelude.{ℕ, ◌-◌, Bool, ◌&&◌, ◌||◌, List, ◌++◌, leb, ltb, length, replicate}
-use Rattle.rules.specs.Choice.{if◌then◌else◌}
+use Rattle.std.specs.Prelude.{if◌then◌else◌}
 use Rattle.memory.specs.Memory.{store}
 use Rattle.fcs.specs.CheckSequence.{check_sequence}
 

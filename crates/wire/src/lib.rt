@@ -1,4 +1,6 @@
 // The bytes of a frame out: padding and check sequence, put at the front of an output.
+#![tactic(auto)]
+
 ghost use Rattle.std.specs.Prelude.{◌≡◌, ◌+◌, ◌-◌, replicate};
 ghost use Rattle.memory.specs.Memory.{store};
 ghost use Rattle.wire.specs.Wire.{send_length_wrong, wire_fits, wire_put, wire_count};

@@ -2,7 +2,7 @@
 use Rattle.std.specs.Prelude.{ℕ, ◌+◌, Bool, List, [], ◌∷◌, ltb, length, take, drop}
 use Prim.Native.Char.{code}
 use Prim.Native.String.{String, [] as none, ◌∷◌ as ◌before◌}
-use Rattle.bytes.specs.Bytes.{index_of}
+use Rattle.scanning.specs.Scanning.{index_of}
 use Rattle.fcs.specs.Bytes.{same}
 
 -- the characters of a text

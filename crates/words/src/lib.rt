@@ -1,13 +1,15 @@
 // The words of a line of the bench console, which stand between single spaces (docs/CONSOLE.md).
+#![tactic(auto)]
+
 ghost use Rattle.std.specs.Prelude.{◌≡◌, ◌≤◌, length};
-ghost use Rattle.bytes.specs.Bytes.{index_of};
+ghost use Rattle.scanning.specs.Scanning.{index_of};
 ghost use Rattle.words.specs.Words.{is, spaced, first, rest};
 
 // Where the first space is, or the length where there is none.
 fn space(s: &[u8]) -> usize
     ensures { (result ≡ index_of 32 s.now) × (result ≤ length s.now) }
 {
-    bytes::scan::find(s, 0, s.len(), b' ')
+    scanning::find(s, b' ')
 }
 
 // Another word follows the first.
@@ -40,5 +42,5 @@ pub fn rest(s: &[u8]) -> &[u8]
 pub fn is(word: &[u8], name: &[u8]) -> bool
     ensures { result ≡ is word.now name.now }
 {
-    check::same(word, name)
+    word == name
 }

@@ -1,4 +1,6 @@
 // The bits of each register that a write can change.
+#![tactic(auto)]
+
 ghost use Rattle.std.specs.Prelude.{◌≡◌};
 ghost use Rattle.writable.specs.Writable.{writable_bits, kept};
 

@@ -1,0 +1,11 @@
+use Rattle.rules.proofs.Choices.{choices}
+use Rattle.event.specs.Sizes.{none_by}
+use Rattle.event.proofs.none.Goals as goal
+
+pub returns-then-begins : goal.returns-then-begins
+unfolding none_by
+returns-then-begins c = search choices
+
+pub returns : goal.returns
+unfolding none_by
+returns c = search choices

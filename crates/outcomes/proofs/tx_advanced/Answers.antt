@@ -1,0 +1,8 @@
+use Rattle.outcomes.proofs.Laws.{tx_moves, tx_ends}
+use Rattle.outcomes.proofs.tx_advanced.Goals as goal
+
+pub returns-then-linked : goal.returns-then-linked
+returns-then-linked c = search tx_moves
+
+pub returns : goal.returns
+returns c = search tx_ends

@@ -1,0 +1,5 @@
+use Rattle.pcap_import.proofs.Filling.{part_behind}
+use Rattle.pcap_import.proofs.frames.message_of.Goals as goal
+
+pub returns : goal.returns
+returns c = search part_behind

@@ -1,0 +1,5 @@
+use Rattle.recording.proofs.ByteLaws.{appended}
+use Rattle.recording.proofs.events.grant.Goals as goal
+
+pub returns : goal.returns
+returns c = search appended
