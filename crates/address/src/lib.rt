@@ -8,6 +8,7 @@ ghost use Rattle.address.specs.Address.{aligned, place_of, polls, apart};
 const NPOL_EN: u32 = 0x0000_0001;
 
 // A multiple of 4.
+#[tactic(auto, unfolding(crate::specs::Address::aligned))]
 pub fn aligned(address: u32) -> bool
     ensures { result ≡ aligned address }
 {
@@ -15,6 +16,7 @@ pub fn aligned(address: u32) -> bool
 }
 
 // The place that a word leads to: its low two bits are cleared.
+#[tactic(auto, unfolding(crate::specs::Address::place_of))]
 pub fn place_of(word: u32) -> u32
     ensures { result ≡ place_of word }
 {
@@ -22,6 +24,7 @@ pub fn place_of(word: u32) -> u32
 }
 
 // Polling is enabled for the place that a word leads to.
+#[tactic(auto, unfolding(crate::specs::Address::polls))]
 pub fn polls(word: u32) -> bool
     ensures { result ≡ polls word }
 {
@@ -29,11 +32,9 @@ pub fn polls(word: u32) -> bool
 }
 
 // Two regions that are not empty share no byte.
+#[tactic(auto, unfolding(crate::specs::Address::apart))]
 pub fn apart(a: u32, n: u32, b: u32, k: u32) -> bool
     ensures { result ≡ apart a n b k }
 {
-    if a as u64 + n as u64 <= b as u64 {
-        return true;
-    }
-    b as u64 + k as u64 <= a as u64
+    u64::from(a) + u64::from(n) <= u64::from(b) || u64::from(b) + u64::from(k) <= u64::from(a)
 }

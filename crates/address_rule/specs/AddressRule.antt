@@ -1,11 +1,11 @@
 -- The address rule: whether a frame is for this station, and why, by the frame's bytes and the filter registers.
 -- Assumes nothing.
-use Rattle.std.specs.Prelude.{ℕ, ◌%◌, Bool, List, [], ◌∷◌, eqb, ltb, length, get_or, take}
+use Rattle.std.specs.Prelude.{ℕ, ◌%◌, Bool, List, [], ◌∷◌, eqb, ltb, length, get_or, take, Option, Some, None}
 use Rattle.std.specs.Prelude.{if◌then◌else◌}
 use Rattle.fcs.specs.Bytes.{same}
 use Rattle.hash.specs.Hash.{hash_accepts}
 use Rattle.reason.specs.declared.Reason.{Reason}
-use Rattle.reason.specs.declared.Reason.TheVariants.{NotTaken, Own, Broadcast, Group, ReceiveAll}
+use Rattle.reason.specs.declared.Reason.TheVariants.{Own, Broadcast, Group, ReceiveAll}
 use Rattle.reason.specs.Reason.{reason_number}
 use Rattle.filter.specs.declared.Filter.{Filter}
 use Rattle.filter.specs.Meaning.{receive_all, filter_mode, station_address}
@@ -33,24 +33,24 @@ multicast_hash control = eqb (filter_mode control) 1
 
 -- the group branch of the address rule. 01: "accept exactly if all-multicast is selected". 02 amends it for one mode, which "replaces only the group
 -- branch of the address rule": accept exactly if the destination's bit in the hash registers is 1
-abbrev pub group_rule : Filter → List ℕ → Reason
+abbrev pub group_rule : Filter → List ℕ → Option Reason
 group_rule filter address =
-    if multicast_hash filter.mcr then (if hash_accepts filter.mcha filter.mcla address then Group else NotTaken) else
-    if all_multicast filter.mcr then Group else
-    NotTaken
+    if multicast_hash filter.mcr then (if hash_accepts filter.mcha filter.mcla address then Some Group else None) else
+    if all_multicast filter.mcr then Some Group else
+    None
 
 -- 01: "Asked alone, .. one under 6 is not accepted. Address rule, first that applies: receive-all set, accept; destination of six bytes FF, accept; lowest
 -- bit of the first destination byte set, accept exactly if all-multicast is selected; otherwise accept exactly if the six bytes equal the station address."
 -- 02, of the hash: "receive-all and broadcast still come first." 02, of the answer: "own, broadcast, group or receive-all, by first rule met, and not only
 -- yes"
-unfoldable pub first_met : Filter → List ℕ → Reason
+unfoldable pub first_met : Filter → List ℕ → Option Reason
 first_met filter frame =
-    if ltb (length frame) 6 then NotTaken else
-    if receive_all filter.mcr then ReceiveAll else
-    if same (destination frame) broadcast then Broadcast else
+    if ltb (length frame) 6 then None else
+    if receive_all filter.mcr then Some ReceiveAll else
+    if same (destination frame) broadcast then Some Broadcast else
     if to_group frame then group_rule filter (destination frame) else
-    if same (destination frame) (station_address filter.mah filter.mal) then Own else
-    NotTaken
+    if same (destination frame) (station_address filter.mah filter.mal) then Some Own else
+    None
 
 -- its number: "1 to 4 in the order named, 0 for not taken"
 abbrev pub address_rule : Filter → List ℕ → ℕ

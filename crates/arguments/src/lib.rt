@@ -13,11 +13,7 @@ pub const WORD: usize = 131_072;
 // Whether the program was started with an argument of this number.
 fn is_given(rt: &impl Env, i: usize) -> bool {
     let mut byte = [0u8; 1];
-    match rt.arg(i, &mut byte) {
-        Ok(_) => true,
-        Err(FillError::TooLong) => true,
-        Err(FillError::NotPresent) => false,
-    }
+    !matches!(rt.arg(i, &mut byte), Err(FillError::NotPresent))
 }
 
 // How many arguments the program was started with, its own name among them: `most` where there are more.
@@ -36,10 +32,7 @@ pub fn count(rt: &impl Env, most: usize) -> usize
 pub fn fetch(rt: &impl Env, i: usize, word: &mut [u8]) -> usize
     ensures { result ≤ length word.new }
 {
-    match rt.arg(i, word) {
-        Ok(n) => n,
-        Err(_) => 0,
-    }
+    rt.arg(i, word).unwrap_or(0)
 }
 
 // Says on standard output that a word, or the file of this name, does not serve: `error WORD`. The answer is that it does not.

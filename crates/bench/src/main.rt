@@ -30,7 +30,7 @@ fn write_past<P: Print>(rt: &P, most: usize, text: &[u8; TEXT], waiting: usize) 
 // Writes what waits. Behind a line, where its answer might have no room; else all of it, before the next chunk is read: so
 // whoever types lines sees the answer of each before the next read.
 fn written<P: Print>(rt: &P, input: Input, text: &[u8; TEXT], waiting: usize) -> usize {
-    if input.ended {
+    if input.ended.is_some() {
         return write_past(rt, MOST, text, waiting);
     }
     write_past(rt, 0, text, waiting)
@@ -45,14 +45,8 @@ fn answered(
     line: &[u8; lines::LINE],
     text: &mut [u8; TEXT],
 ) -> BoardTold {
-    if input.ended {
-        return board::answer(
-            board,
-            memory,
-            memory::part(line, 0, input.last),
-            text,
-            waiting,
-        );
+    if let Some(n) = input.ended {
+        return board::answer(board, memory, memory::part(line, 0, n), text, waiting);
     }
     BoardTold {
         board,

@@ -1,32 +1,48 @@
--- Laws of the loop that puts zeros. Assumes nothing.
-use Prim.Native.Nat.{ℕ, suc, ◌+◌, ◌-◌, ◌≤◌, ◌<◌}
-use mathlib.Core.Path.{◌≡◌, ◌∙◌}
+-- A law of the part that is filled with zeros. Assumes nothing.
+use Prim.Native.Nat.{ℕ, ◌+◌, ◌-◌, ◌≤◌, ◌<◌, min}
+use mathlib.Core.Path.{◌≡◌, sym, ap, ◌∙◌}
 use mathlib.Core.Logic.{◌⊎◌, inl, inr}
-use mathlib.Core.List.{List}
+use mathlib.Core.List.{List, ◌++◌, append_assoc}
 use native.Mathlib.Omega.{arith}
-use lib.ListN.{length, set, replicate}
+use borrow.Rule.Slice.PartMut.{put_mid, Post-is}
+use lib.ListN.{length, take, drop, replicate, length-replicate}
+use Rattle.std.proofs.lemmas.Bool.{cases_lt}
+use Rattle.std.proofs.lemmas.List.{replicate-append-replicate}
+use Rattle.std.proofs.lemmas.List.Edits.{sets-eq}
 use Rattle.memory.specs.Memory.{store}
 use Rattle.memory.proofs.Laws.{store_out}
+use Rattle.memory.proofs.Stores.{length_store, store_append}
 
--- r is the lesser of two numbers
-pub record Least (r a b : ℕ) : Type 0 where
-  pub first : r ≤ a
-  pub second : r ≤ b
-  pub which : (r ≡ a) ⊎ (r ≡ b)
+module _ (m : List ℕ) (at n k : ℕ) (within : at < length m) where
+  -- zeros behind the last that has room change nothing
+  more : (o : List ℕ) → length o ≡ length m → (k ≡ n) ⊎ (k ≡ length m - at) → o ≡ store o (at + k) (replicate (n - k) 0)
+  unfolding store
+  more o l (inl e) = let f : n - k ≡ 0 = omega arith in rw f
+  more o l (inr e) = store_out o (at + k) (replicate (n - k) 0) (omega arith)
 
-pub clear_turn : (m : List ℕ) (at n i : ℕ) → i < n
-    → store (set m (at + i) 0) (at + (i + 1)) (replicate (n - (i + 1)) 0) ≡ store m (at + i) (replicate (n - i) 0)
-unfolding store
-clear_turn m at n i h =
-    let e : n - i ≡ suc (n - (i + 1)) = omega arith in
-    let f : at + (i + 1) ≡ suc (at + i) = omega arith in
-    rw (e, f)
+  which : k ≡ min n (length m - at) → (k ≡ n) ⊎ (k ≡ length m - at)
+  which e =
+      elim (cases_lt n (length m - at)) [
+        | inl h ↦ inl (omega (arith, e))
+        | inr h ↦ inr (omega (arith, e))
+      ]
 
--- no zero is left, or none has room
-pub clear_end : (m o : List ℕ) (at n i left : ℕ) → length o ≡ length m → left ≤ i → (left ≡ n) ⊎ (left ≡ length m - at)
-    → store o (at + i) (replicate (n - i) 0) ≡ store m at (replicate n 0) → o ≡ store m at (replicate n 0)
-unfolding store
-clear_end m o at n i left l h (inl e) s =
-    let f : n - i ≡ 0 = omega arith in
-    rw f at s
-clear_end m o at n i left l h (inr e) s = store_out o (at + i) (replicate (n - i) 0) (omega arith) ∙ s
+  put : (z : List ℕ) → k ≤ length m - at → z ≡ replicate k 0 → put_mid at (at + k - at) m z ≡ store m at (replicate k 0)
+  unfolding store
+  put z room ez =
+      let few : length {A = ℕ} (replicate k 0) ≡ k = length-replicate k 0 in
+      ap (λ y. put_mid at (at + k - at) m y) ez
+      ∙ ap (λ r. take at m ++ (replicate k 0 ++ r)) (Post-is at (at + k) m (omega arith) ∙ ap (λ i. drop (at + i) m) (sym few))
+      ∙ sym (append_assoc (take at m) (replicate k 0) (drop (at + length (replicate {A = ℕ} k 0)) m))
+      ∙ sym (sets-eq (replicate k 0) m at (omega (arith, few)))
+
+  -- as many zeros as have room are put
+  pub cleared : (z : List ℕ) → k ≡ min n (length m - at) → z ≡ replicate k 0 → put_mid at (at + k - at) m z ≡ store m at (replicate n 0)
+  cleared z e ez =
+      let few : length {A = ℕ} (replicate k 0) ≡ k = length-replicate k 0 in
+      let all : replicate k 0 ++ replicate (n - k) 0 ≡ replicate n 0 =
+      replicate-append-replicate k (n - k) 0 ∙ ap (λ i. replicate i 0) (omega (arith, e)) in
+      put z (omega (arith, e)) ez
+      ∙ more (store m at (replicate k 0)) (length_store m at (replicate k 0)) (which e)
+      ∙ store_append m at (at + k) (replicate k 0) (replicate (n - k) 0) (omega (arith, few))
+      ∙ ap (store m at) all

@@ -1,32 +1,28 @@
--- Laws of a block's parts: its zero fill, read in a loop and lent as a part. Assumes nothing.
-use Prim.Native.Nat.{ℕ, ◌+◌, ◌-◌, ◌≤◌, ◌<◌}
-use mathlib.Core.Bool.{Bool, true, false}
-use mathlib.Core.Path.{◌≡◌, sym, ap, ◌∙◌}
-use mathlib.Core.List.{List, ◌∷◌}
+-- Laws of a block's parts: its zero fill, tested and lent as a part. Assumes nothing.
+use Prim.Native.Nat.{ℕ, ◌+◌, ◌-◌, ◌<◌}
+use mathlib.Core.Bool.{◌&&◌}
+use mathlib.Core.Path.{◌≡◌, refl, sym, ap, ◌∙◌}
+use mathlib.Core.List.{List, [], ◌∷◌}
 use native.Mathlib.Numerals.{add-one}
-use borrow.Author.Tests.{eq-eqb, ne_eqb}
-use lib.ListN.{length, get_or, take, drop, drop_of_length-le}
+use lib.Dec.{eqb}
+use lib.ListN.{length, get_or, take, drop}
 use lib.Seq.{drop-cons, drop-drop}
+use Rattle.std.specs.List.{list_all}
 use Rattle.memory.proofs.Parts.{drop_take}
 use Rattle.block.specs.Fields.{data_of, used_length, unused_data}
 use Rattle.block.specs.Faults.{all_zero}
 
--- ---- A loop over bytes, and that over bytes that should be zero
+-- ---- A test of each byte, and that of bytes that should be zero
+
+pub zeros : (s : List ℕ) → list_all (λ byte. eqb byte 0) s ≡ all_zero s
+unfolding all_zero
+zeros [] = refl
+zeros (byte ∷ bytes) = ap (λ rest. eqb byte 0 && rest) (zeros bytes)
+
+-- ---- The bytes from a place on
 
 pub next_byte : (s : List ℕ) (i : ℕ) → i < length s → drop i s ≡ get_or s i 0 ∷ drop (i + 1) s
 next_byte s i h = rw add-one (drop-cons s i 0 h)
-
-pub zero_turn : (s : List ℕ) (i : ℕ) (all : Bool) → i < length s → get_or s i 0 ≡ 0 → all_zero (drop i s) ≡ all → all_zero (drop (i + 1) s) ≡ all
-unfolding all_zero
-zero_turn s i all h z e = rw (next_byte s i h, eq-eqb (get_or s i 0) 0 z) at e
-
-pub zero_fails : (s : List ℕ) (i : ℕ) (all : Bool) → i < length s → (get_or s i 0 ≡ 0 → ⊥) → all_zero (drop i s) ≡ all → false ≡ all
-unfolding all_zero
-zero_fails s i all h z e = rw (next_byte s i h, ne_eqb (get_or s i 0) 0 z) at e
-
-pub zero_end : (s : List ℕ) (i : ℕ) (all : Bool) → length s ≤ i → all_zero (drop i s) ≡ all → true ≡ all
-unfolding all_zero
-zero_end s i all h e = rw (drop_of_length-le s {i = i} h) at e
 
 -- ---- The unused bytes as a part of the block
 

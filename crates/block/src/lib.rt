@@ -6,14 +6,17 @@ pub mod made;
 mod sums;
 
 ghost use Rattle.std.specs.Prelude.{◌+◌, ◌*◌, ◌≡◌};
+ghost use Rattle.answer.specs.Refusals.{number_of};
 ghost use Rattle.block.specs.Fields.{block_number, used_length};
 ghost use Rattle.block.specs.Faults.{used_fault, all_zero, block_fault};
+
+use answer::Refusal;
 
 // The number of two bytes, the lowest first.
 fn half_of(low: u8, high: u8) -> usize
     ensures { result ≡ low + 256 * high }
 {
-    low as usize + 256 * high as usize
+    u16::from_le_bytes([low, high]) as usize
 }
 
 // The block number.
@@ -31,54 +34,39 @@ pub fn used(block: &[u8]) -> usize
 }
 
 // A used length that a block, the last one or another, cannot have.
+#[tactic(auto, unfolding(crate::specs::Faults::used_fault))]
 fn used_fault(last: bool, used: usize) -> bool
     ensures { result ≡ used_fault last used }
 {
-    if used == 0 {
-        return true;
-    }
-    if 504 < used {
-        return true;
-    }
-    if last {
-        return false;
-    }
-    used < 504
+    used == 0 || used > 504 || (!last && used < 504)
 }
 
 // All of these bytes are zero.
 fn all_zero(bytes: &[u8]) -> bool
     ensures { result ≡ all_zero bytes.now }
 {
-    let mut i = 0;
-    while i < bytes.len() {
-        if bytes[i] != 0 {
-            return false;
-        }
-        i += 1;
-    }
-    true
+    bytes.iter().all(|byte| *byte == 0)
 }
 
-// The first fault of the block that should have this number, or 0.
-pub fn fault(block: &[u8], k: usize, last: bool) -> u32
-    ensures { result ≡ block_fault last k block.now }
+// The first fault of the block that should have this number.
+pub fn fault(block: &[u8], k: usize, last: bool) -> Result<(), Refusal>
+    ensures { number_of result ≡ block_fault last k block.now }
 {
     if block.len() != 512 {
-        return answer::BLOCK_LENGTH;
+        return Err(Refusal::BlockLength);
     }
     if number(block) != k {
-        return answer::BLOCK_NUMBER;
+        return Err(Refusal::BlockNumber);
     }
     if memory::word(block, 508) != sums::check(block) {
-        return answer::BLOCK_CHECK;
+        return Err(Refusal::BlockCheck);
     }
     let used = used(block);
     if used_fault(last, used) {
-        return answer::USED_LENGTH;
+        return Err(Refusal::UsedLength);
     }
     if !all_zero(memory::part(block, 4 + used, 504 - used)) {
-        return answer::ZERO_FILL;
+        return Err(Refusal::ZeroFill);
     }
-    answer::DONE
+    Ok(())
 }

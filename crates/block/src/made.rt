@@ -9,30 +9,20 @@ use crate::sums::check;
 fn head(number: usize, used: usize) -> [u8; 4]
     ensures { result ≡ half_bytes number ++ half_bytes used }
 {
-    [
-        (number % 256) as u8,
-        (number / 256 % 256) as u8,
-        (used % 256) as u8,
-        (used / 256 % 256) as u8,
-    ]
+    let [number_low, number_high, ..] = number.to_le_bytes();
+    let [used_low, used_high, ..] = used.to_le_bytes();
+    [number_low, number_high, used_low, used_high]
 }
 
-// Puts n zeros from an offset on. How many have room is settled before the loop, so that the compiler can put several at once.
+// Puts n zeros from an offset on, as many as have room.
 fn clear(room: &mut [u8], at: usize, n: usize)
     ensures { room.new ≡ store room.old at (replicate n 0) }
 {
     if room.len() <= at {
         return;
     }
-    let mut left = room.len() - at;
-    if n < left {
-        left = n;
-    }
-    let mut i = 0;
-    while i < left {
-        room[at + i] = 0;
-        i += 1;
-    }
+    let end = at + n.min(room.len() - at);
+    room[at..end].fill(0);
 }
 
 // Puts bytes 0 to 507 of the block of this number and this used data into the room, from an offset on.
@@ -40,9 +30,8 @@ fn put_front(room: &mut [u8], at: usize, number: usize, used: &[u8])
     requires { at < length room.old }
     ensures { room.new ≡ store room.old at (front_of number used.now) }
 {
-    let head = head(number, used.len());
     let kept = memory::part(used, 0, 504);
-    memory::store(room, at, &head);
+    memory::store(room, at, &head(number, used.len()));
     memory::store(room, at + 4, kept);
     clear(room, at + 4 + kept.len(), 504 - kept.len());
 }

@@ -14,8 +14,7 @@ use Rattle.commands.specs.declared.Told.{Told}
 use Rattle.commands.specs.Answers.{given as console_given, tells as console_tells}
 use Rattle.commands.specs.Answering.{reset as reset_console, counted, answer as console_answer}
 use Rattle.vic_script.specs.declared.VicCall.{VicCall}
-use Rattle.vic_script.specs.declared.VicLine.{VicLine}
-use Rattle.vic_script.specs.declared.VicLine.TheVariants.{Calls, Other}
+use Rattle.std.specs.Prelude.{Option, Some, None}
 use Rattle.vic_script.specs.VicCalls.{vic_call_of}
 use Rattle.vic_commands.specs.declared.Controllers.{Controllers}
 use Rattle.vic_commands.specs.declared.VicTold.{VicTold}
@@ -60,11 +59,11 @@ module _ (b : Board) (t t' : List ℕ) (at : ℕ) where
   elsewhere_is m m' line r v h e =
       λ j. record { board = record { console = (h j).console; controllers = e j }; memory = (h j).memory; text = (h j).text }
 
-module _ (b : Board) (m line t : List ℕ) (at : ℕ) (k : VicLine) (e : k ≡ vic_call_of line) (x : Given) where
-  pub answer_calls : (call : VicCall) → k ≡ Calls call → x ≡ tells (called b m call) t at → x ≡ tells (answer b m line) t at
+module _ (b : Board) (m line t : List ℕ) (at : ℕ) (k : Option VicCall) (e : k ≡ vic_call_of line) (x : Given) where
+  pub answer_calls : (call : VicCall) → k ≡ Some call → x ≡ tells (called b m call) t at → x ≡ tells (answer b m line) t at
   unfolding answer
   answer_calls call f h = rw (← e, f) h
 
-  pub answer_other : k ≡ Other → x ≡ tells (elsewhere b m line) t at → x ≡ tells (answer b m line) t at
+  pub answer_other : k ≡ None → x ≡ tells (elsewhere b m line) t at → x ≡ tells (answer b m line) t at
   unfolding answer
   answer_other f h = rw (← e, f) h

@@ -7,8 +7,7 @@ use Rattle.kinds.specs.Kinds.{renews}
 use Rattle.text.specs.Text.{Text, written, put}
 use Rattle.commands.specs.Answering.{reset as reset_console, counted, answer as console_answer}
 use Rattle.vic_script.specs.declared.VicCall.{VicCall}
-use Rattle.vic_script.specs.declared.VicLine.{VicLine}
-use Rattle.vic_script.specs.declared.VicLine.TheVariants.{Calls, Other}
+use Rattle.std.specs.Prelude.{Option, Some, None}
 use Rattle.vic_script.specs.VicCalls.{vic_call_of}
 use Rattle.vic_commands.specs.declared.Controllers.{Controllers}
 use Rattle.vic_commands.specs.VicCommands.{reset as reset_controllers, answer_to}
@@ -51,9 +50,9 @@ elsewhere b m line =
 
 -- ---- the answer to a line
 
-abbrev pub answer_by : VicLine → Board → List ℕ → List ℕ → BoardAnswer
-answer_by (Calls call) b m line = called b m call
-answer_by Other b m line = elsewhere b m line
+abbrev pub answer_by : Option VicCall → Board → List ℕ → List ℕ → BoardAnswer
+answer_by (Some call) b m line = called b m call
+answer_by None b m line = elsewhere b m line
 
 unfoldable pub answer : Board → List ℕ → List ℕ → BoardAnswer
 answer b m line = answer_by (vic_call_of line) b m line

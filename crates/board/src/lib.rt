@@ -7,7 +7,7 @@ ghost use Rattle.board.specs.Board.{reset, called, renewed, elsewhere, answer, g
 
 use commands::Console;
 use vic_commands::Controllers;
-use vic_script::{VicCall, VicLine};
+use vic_script::VicCall;
 use words::{first, is};
 
 // The console, with the device in it, and the controllers.
@@ -91,7 +91,7 @@ pub fn answer(board: Board, memory: &mut [u8], line: &[u8], text: &mut [u8], at:
     ensures { given result memory.new text.new ≡ tells (answer board memory.old line.now) text.old at }
 {
     match vic_script::vic_call_of(line) {
-        VicLine::Calls(call) => called(board, memory, call, text, at),
-        VicLine::Other => elsewhere(board, memory, line, text, at),
+        Some(call) => called(board, memory, call, text, at),
+        None => elsewhere(board, memory, line, text, at),
     }
 }

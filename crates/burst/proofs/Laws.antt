@@ -4,7 +4,7 @@ use mathlib.Core.Path.{◌≡◌, refl, sym, ap, ◌∙◌}
 use mathlib.Core.Bool.{Bool, true, false, not, false≢true}
 use mathlib.Core.List.{List, [], ◌∷◌, map}
 use native.Mathlib.Omega.{arith}
-use borrow.Author.Tests.{lt-ltb, le-ltb, eq-eqb, ne_eqb, eqb-true, not-false}
+use borrow.Author.Tests.{eq-eqb, ne_eqb, eqb-true, not-false}
 use lib.Dec.{eqb, ltb}
 use lib.ListN.{length, length-map}
 use Rattle.rules.proofs.Choices.{by_bool}
@@ -16,17 +16,7 @@ use Rattle.burst.specs.Burst.{refuses, refused, burst, pairs_of, uneven, burst_o
 use Rattle.burst.specs.Turns.{turns_of}
 use Rattle.burst.proofs.Turns.{length_receives, turns_receive}
 
--- ---- whether it is refused
-
-pub refuses_many : (n k : ℕ) → 64 < n → true ≡ refuses n k
-unfolding refuses
-refuses_many n k h = rw (lt-ltb 64 n h)
-
-pub refuses_other : (n k : ℕ) → n ≤ 64 → not (eqb k n) ≡ refuses n k
-unfolding refuses
-refuses_other n k h = rw (le-ltb 64 n h)
-
-accepts : (n k : ℕ) → refuses n k ≡ false → k ≡ n
+pub accepts : (n k : ℕ) → refuses n k ≡ false → k ≡ n
 unfolding refuses
 accepts n k e = by_bool (ltb 64 n) (λ f. absurd (false≢true (sym e ∙ rw f))) (λ f. eqb-true k n (not-false _ (rw f at e)))
 

@@ -1,11 +1,12 @@
 -- The turns of a burst are its single receives, with their answers put into the lent list. Assumes nothing.
 use Prim.Native.Nat.{ℕ, suc, ◌+◌, ◌≤◌, ◌<◌}
 use mathlib.Core.Path.{◌≡◌, refl, sym, ap, ◌∙◌}
+use mathlib.Core.Logic.{◌⊎◌, inl, inr}
 use mathlib.Core.List.{List, [], ◌∷◌, append-nil}
 use native.Mathlib.Numerals.{add-one}
 use native.Mathlib.Omega.{arith}
-use lib.ListN.{length, drop, set, get_or, drop_of_length-le}
-use lib.Seq.{sets, sets-eq, drop-cons}
+use lib.ListN.{length, set, drop_of_length-le}
+use lib.Seq.{sets, sets-eq}
 use Rattle.enet.specs.declared.Enet.{Enet}
 use Rattle.pair.specs.declared.Pair.{Pair}
 use Rattle.pair.specs.Pair.{pair, received}
@@ -55,17 +56,17 @@ turns_receive d m store ps a h =
     turns_are ps 0 d m store a 0
     ∙ (λ j. record { number = sym (number_receives ps d m store) j; device = r.device; memory = r.memory; answers = put j })
 
--- ---- over two lists
+-- ---- over two lists, of which rest and rests are left
 
-pub lists_turn : (b b' : Bursting) (store ss ns : List ℕ) (i : ℕ) → i < length ss → length ns ≡ length ss
-    → b' ≡ turn b store i (pair (get_or ss i 0) (get_or ns i 0))
-    → turns_of b' store (i + 1) (pairs_of (drop (i + 1) ss) (drop (i + 1) ns)) ≡ turns_of b store i (pairs_of (drop i ss) (drop i ns))
+pub lists_turn : (b b' : Bursting) (store rest rests rest' rests' : List ℕ) (i j start n : ℕ) → rest ≡ start ∷ rest' → rests ≡ n ∷ rests'
+    → j ≡ i + 1 → b' ≡ turn b store i (pair start n)
+    → turns_of b' store j (pairs_of rest' rests') ≡ turns_of b store i (pairs_of rest rests)
 unfolding pairs_of
-lists_turn b b' store ss ns i h l e =
-    let k : i < length ns = omega arith in
-    rw (drop-cons ss i 0 h, drop-cons ns i 0 k, add-one i)
-    (turns_step b store i (pair (get_or ss i 0) (get_or ns i 0)) (pairs_of (drop (suc i) ss) (drop (suc i) ns)) b' e)
+lists_turn b b' store rest rests rest' rests' i j start n e f g h =
+    rw (e, f, g, add-one i) (turns_step b store i (pair start n) (pairs_of rest' rests') b' h)
 
-pub lists_end : (b : Bursting) (store ss ns : List ℕ) (i : ℕ) → length ss ≤ i → turns_of b store i (pairs_of (drop i ss) (drop i ns)) ≡ b
+pub lists_end : (b : Bursting) (store rest rests : List ℕ) (i : ℕ) → (rest ≡ []) ⊎ (rests ≡ []) → turns_of b store i (pairs_of rest rests) ≡ b
 unfolding turns_of pairs_of
-lists_end b store ss ns i h = rw (drop_of_length-le ss h)
+lists_end b store rest rests i (inl h) = rw h
+lists_end b store [] rests i (inr h) = refl
+lists_end b store (x ∷ rest) rests i (inr h) = rw h

@@ -3,7 +3,7 @@
 // methods of `Enet` do, and stands above them since it is made of single receives.
 #![tactic(auto)]
 
-ghost use Rattle.std.specs.Prelude.{◌≡◌, length};
+ghost use Rattle.std.specs.Prelude.{◌≡◌};
 ghost use Rattle.pair.specs.Turn.{bursting};
 ghost use Rattle.burst.specs.Burst.{refuses, pairs_of, burst_of};
 ghost use Rattle.burst.specs.Turns.{turns_of};
@@ -11,13 +11,11 @@ ghost use Rattle.burst.specs.Turns.{turns_of};
 use enet::{Answered, Enet};
 
 // Whether a burst of so many pairs into so many answers is refused.
+#[tactic(auto, unfolding(crate::specs::Burst::refuses))]
 pub fn refuses(pairs: usize, answers: usize) -> bool
     ensures { result ≡ refuses pairs answers }
 {
-    if 64 < pairs {
-        return true;
-    }
-    answers != pairs
+    64 < pairs || answers != pairs
 }
 
 // The pairs in order, each answer in its own place.
@@ -29,14 +27,11 @@ fn each(
     lengths: &[u32],
     answers: &mut [u32],
 ) -> Answered
-    requires { length lengths.now ≡ length starts.now }
     ensures { bursting result memory.new answers.new ≡ turns_of (bursting begun memory.old answers.old) store.now 0 (pairs_of starts.now lengths.now) }
 {
     let mut last = begun;
-    let mut i = 0;
-    while i < starts.len() {
-        last = pair::turn(last, memory, store, starts[i], lengths[i], answers, i);
-        i += 1;
+    for (i, (start, length)) in starts.iter().zip(lengths).enumerate() {
+        last = pair::turn(last, memory, store, *start, *length, answers, i);
     }
     last
 }

@@ -1,7 +1,7 @@
 // The call of the device that takes a burst of frames into the memory that it is lent. It writes its line.
 #![tactic(auto)]
 
-ghost use Rattle.std.specs.Prelude.{◌≡◌, ◌≤◌, length, take, replicate};
+ghost use Rattle.std.specs.Prelude.{◌≡◌, ◌≤◌, length, take};
 ghost use Rattle.words.specs.Words.{first, rest};
 ghost use Rattle.forms.specs.Pairs.{named};
 ghost use Rattle.pair_words.specs.PairWords.{every_other};
@@ -14,13 +14,6 @@ use words::{first, rest};
 
 // The most pairs, and the longest answer list.
 const MOST: usize = 66;
-
-// The longest answer list, before the call.
-fn longest() -> [u32; MOST]
-    ensures { (result ≡ replicate 66 99) × (66 ≡ length result) }
-{
-    [99; MOST]
-}
 
 // Makes the call, with its lists in hand.
 fn call(
@@ -35,7 +28,7 @@ fn call(
 ) -> Told
     ensures { given result memory.new text.new ≡ tells (burst console memory.old store.now starts.now lengths.now (answer_list room)) text.old at }
 {
-    let mut all = longest();
+    let mut all = [99; MOST];
     let k = commands::within(room as usize, MOST);
     let n = commands::within(console.lent, memory.len());
     let answers = &mut all[..k];
@@ -61,13 +54,6 @@ fn numbers(s: &[u8], n: usize) -> [u32; MOST]
     all
 }
 
-// Room for the bytes that a line names.
-fn blank() -> [u8; 2048]
-    ensures { 2048 ≡ length result }
-{
-    [0; 2048]
-}
-
 // The burst of a line, of so many pairs, into an answer list of `room` numbers.
 pub fn burst(
     console: Console,
@@ -81,7 +67,8 @@ pub fn burst(
     ensures { given result memory.new text.new ≡ tells (burst console memory.old (named (first (rest (rest line.now)))) (starts count line.now) (lengths count line.now) (answer_list room)) text.old at }
 {
     let words = rest(rest(line));
-    let mut bytes = blank();
+    // Room for the bytes that a line names.
+    let mut bytes = [0; 2048];
     let n = pairs::decode(first(words), &mut bytes);
     let p = commands::within(count as usize, MOST);
     let behind = rest(words);

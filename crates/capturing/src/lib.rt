@@ -34,16 +34,15 @@ fn keep(before: Kept, number: u32, i: usize, frame: &[u8], list: &mut [u8]) -> K
     if before.full {
         return before;
     }
-    let end = pcap_list::put(list, before.bytes, i / 1_000_000, i % 1_000_000, frame);
-    if end == 0 {
-        return Kept {
+    match pcap_list::put(list, before.bytes, i / 1_000_000, i % 1_000_000, frame) {
+        Some(end) => Kept {
+            bytes: end,
+            full: false,
+        },
+        None => Kept {
             bytes: before.bytes,
             full: true,
-        };
-    }
-    Kept {
-        bytes: end,
-        full: false,
+        },
     }
 }
 

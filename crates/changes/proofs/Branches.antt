@@ -4,7 +4,7 @@ use mathlib.Core.Path.{◌≡◌}
 use mathlib.Core.Bool.{Bool, true, false, not}
 use mathlib.Core.List.{List}
 use borrow.Author.Tests.{not-false}
-use Rattle.std.specs.Prelude.{if◌then◌else◌}
+use Rattle.std.specs.Prelude.{if◌then◌else◌, Option, Some, None}
 use Rattle.rules.proofs.Choices.{by_test}
 use Rattle.window.specs.Window.{window_allowed, lent}
 use Rattle.reading.specs.Reading.{shown, reading_number}
@@ -12,7 +12,7 @@ use Rattle.enet.specs.declared.Enet.{Enet}
 use Rattle.enet.specs.declared.Answered.{Answered}
 use Rattle.enet.specs.declared.Value.{Value}
 use Rattle.registers.specs.declared.Register.{Register}
-use Rattle.registers.specs.declared.Register.TheVariants.{Ier, Isr, RxStart, RxNext, TxStart, TxNext, TxTimeout, Mcr, Mah, Mal, Mcha, Mcla, Unmodelled}
+use Rattle.registers.specs.declared.Register.TheVariants.{Ier, Isr, RxStart, RxNext, TxStart, TxNext, TxTimeout, Mcr, Mah, Mal, Mcha, Mcla}
 use Rattle.registers.specs.Access.{register_at, read_number, value_of}
 use Rattle.registers.specs.Registers as registers
 use Rattle.registers.specs.Access as access
@@ -31,22 +31,11 @@ by_new P base window r0 r1 = by_test P (window_allowed base window) _ _ (λ _. r
 
 -- ---- registers
 
-register_read_lem : (P : Value → Type 0) (d : Enet) (r : Register)
+register_read_lem : (P : Value → Type 0) (d : Enet) (r : Option Register)
     → P (record { number = 2; value = 0; device = d }) → P (record { number = 0; value = value_of d.registers r; device = d })
     → P (record { number = read_number r; value = value_of d.registers r; device = d })
-register_read_lem P d Ier r2 r0 = r0
-register_read_lem P d Isr r2 r0 = r0
-register_read_lem P d RxStart r2 r0 = r0
-register_read_lem P d RxNext r2 r0 = r0
-register_read_lem P d TxStart r2 r0 = r0
-register_read_lem P d TxNext r2 r0 = r0
-register_read_lem P d TxTimeout r2 r0 = r0
-register_read_lem P d Mcr r2 r0 = r0
-register_read_lem P d Mah r2 r0 = r0
-register_read_lem P d Mal r2 r0 = r0
-register_read_lem P d Mcha r2 r0 = r0
-register_read_lem P d Mcla r2 r0 = r0
-register_read_lem P d Unmodelled r2 r0 = r2
+register_read_lem P d (Some _) r2 r0 = r0
+register_read_lem P d None r2 r0 = r2
 
 pub by_read : (P : Value → Type 0) (d : Enet) (offset : ℕ)
     → P (record { number = 2; value = 0; device = d }) → P (record { number = 0; value = value_of d.registers (register_at offset); device = d })
@@ -61,30 +50,30 @@ wrote d offset r = with_ticks (with_registers d r) (after_write 0 offset r.txtor
 module _ (P : Answered → Type 0) (d : Enet) (v : ℕ)
     (r2 : P (record { number = 2; device = d })) (r15 : P (record { number = 15; device = d })) (offset : ℕ) where
   -- the way out by a number, for a register that is written
-  way : ℕ → Register → Answered
+  way : ℕ → Option Register → Answered
   way n r = of_change d offset (written_by d.registers r v n)
 
-  running : (r : Register) (t : Bool) → P (record { number = 0; device = wrote d offset (written d.registers r v) }) → P (way (if t then 15 else 0) r)
+  running : (r : Option Register) (t : Bool) → P (record { number = 0; device = wrote d offset (written d.registers r v) }) → P (way (if t then 15 else 0) r)
   unfolding way after_write
   running r true r0 = r15
   running r false r0 = r0
 
-  by_register : (r : Register) → P (record { number = 0; device = wrote d offset (written d.registers r v) })
+  by_register : (r : Option Register) → P (record { number = 0; device = wrote d offset (written d.registers r v) })
       → P (way (write_number d.registers.rx.running d.registers.tx.running r) r)
   unfolding way after_write
-  by_register Ier r0 = r0
-  by_register Isr r0 = r0
-  by_register RxStart r0 = r0
-  by_register RxNext r0 = running RxNext d.registers.rx.running r0
-  by_register TxStart r0 = r0
-  by_register TxNext r0 = running TxNext d.registers.tx.running r0
-  by_register TxTimeout r0 = r0
-  by_register Mcr r0 = r0
-  by_register Mah r0 = r0
-  by_register Mal r0 = r0
-  by_register Mcha r0 = r0
-  by_register Mcla r0 = r0
-  by_register Unmodelled r0 = r2
+  by_register (Some Ier) r0 = r0
+  by_register (Some Isr) r0 = r0
+  by_register (Some RxStart) r0 = r0
+  by_register (Some RxNext) r0 = running (Some RxNext) d.registers.rx.running r0
+  by_register (Some TxStart) r0 = r0
+  by_register (Some TxNext) r0 = running (Some TxNext) d.registers.tx.running r0
+  by_register (Some TxTimeout) r0 = r0
+  by_register (Some Mcr) r0 = r0
+  by_register (Some Mah) r0 = r0
+  by_register (Some Mal) r0 = r0
+  by_register (Some Mcha) r0 = r0
+  by_register (Some Mcla) r0 = r0
+  by_register None r0 = r2
 
   pub by_write : P (record { number = 0; device = wrote d offset (written d.registers (register_at offset) v) }) → P (write d offset v)
   unfolding write register_write_lem.write way

@@ -1,4 +1,5 @@
 -- Which parts of the device a call leaves. Assumes nothing.
+use Rattle.std.specs.Prelude.{Option, Some, None}
 use Prim.Native.Nat.{ℕ, zero, suc}
 use mathlib.Core.Path.{◌≡◌, refl, ap, ◌∙◌}
 use mathlib.Core.Bool.{false, not}
@@ -10,7 +11,7 @@ use Rattle.descriptor.specs.Descriptor.{next_enabled}
 use Rattle.engine.specs.declared.Engine.{Engine}
 use Rattle.enet.specs.declared.Enet.{Enet}
 use Rattle.registers.specs.declared.Register.{Register}
-use Rattle.registers.specs.declared.Register.TheVariants.{Ier, Isr, RxStart, RxNext, TxStart, TxNext, TxTimeout, Mcr, Mah, Mal, Mcha, Mcla, Unmodelled}
+use Rattle.registers.specs.declared.Register.TheVariants.{Ier, Isr, RxStart, RxNext, TxStart, TxNext, TxTimeout, Mcr, Mah, Mal, Mcha, Mcla}
 use Rattle.ticking.specs.Tick.{after_write}
 use Rattle.enet.specs.Device.{with_registers, with_counters, with_rx, with_tx, with_ticks, raised, rx_stopped, tx_stopped, rx_not_granted, tx_not_granted, one_lost, one_delivered, one_sent}
 use Rattle.engine.specs.Engine.{led_to, stopped, not_granted}
@@ -31,20 +32,20 @@ use Rattle.changes.proofs.Branches.{wrote, by_write}
 -- ---- register writes
 
 -- the same, of a register write that is refused
-register_same : (r : Register) (d : Enet) → d ≡ register_of r d d
-register_same Ier d = refl
-register_same Isr d = refl
-register_same RxStart d = refl
-register_same RxNext d = refl
-register_same TxStart d = refl
-register_same TxNext d = refl
-register_same TxTimeout d = refl
-register_same Mcr d = refl
-register_same Mah d = refl
-register_same Mal d = refl
-register_same Mcha d = refl
-register_same Mcla d = refl
-register_same Unmodelled d = refl
+register_same : (r : Option Register) (d : Enet) → d ≡ register_of r d d
+register_same (Some Ier) d = refl
+register_same (Some Isr) d = refl
+register_same (Some RxStart) d = refl
+register_same (Some RxNext) d = refl
+register_same (Some TxStart) d = refl
+register_same (Some TxNext) d = refl
+register_same (Some TxTimeout) d = refl
+register_same (Some Mcr) d = refl
+register_same (Some Mah) d = refl
+register_same (Some Mal) d = refl
+register_same (Some Mcha) d = refl
+register_same (Some Mcla) d = refl
+register_same None d = refl
 
 start_next : (e : Engine) (v : ℕ) → (start_written e v).next ≡ e.next
 unfolding start_written
@@ -54,23 +55,23 @@ start_next e v =
     by_test (λ (x : Engine). x.next ≡ e.next) (start_fetch v) _ _ (λ _. refl) (λ _. refl)))
 
 -- the device with its registers written
-abbrev after : Enet → Register → ℕ → Enet
+abbrev after : Enet → Option Register → ℕ → Enet
 after d r v = with_registers d (written d.registers r v)
 
-register_written : (r : Register) (d : Enet) (v : ℕ) → after d r v ≡ register_of r d (after d r v)
-register_written Ier d v = refl
-register_written Isr d v = refl
-register_written RxStart d v = rw start_next
-register_written RxNext d v = refl
-register_written TxStart d v = rw start_next
-register_written TxNext d v = refl
-register_written TxTimeout d v = refl
-register_written Mcr d v = refl
-register_written Mah d v = refl
-register_written Mal d v = refl
-register_written Mcha d v = refl
-register_written Mcla d v = refl
-register_written Unmodelled d v = refl
+register_written : (r : Option Register) (d : Enet) (v : ℕ) → after d r v ≡ register_of r d (after d r v)
+register_written (Some Ier) d v = refl
+register_written (Some Isr) d v = refl
+register_written (Some RxStart) d v = rw start_next
+register_written (Some RxNext) d v = refl
+register_written (Some TxStart) d v = rw start_next
+register_written (Some TxNext) d v = refl
+register_written (Some TxTimeout) d v = refl
+register_written (Some Mcr) d v = refl
+register_written (Some Mah) d v = refl
+register_written (Some Mal) d v = refl
+register_written (Some Mcha) d v = refl
+register_written (Some Mcla) d v = refl
+register_written None d v = refl
 
 -- the count of ticks stays, but where the time-out is written
 written_elsewhere : (d : Enet) (offset v : ℕ) → eqb offset 0x48 ≡ false

@@ -1,4 +1,5 @@
 -- Which status bits receiving, sending and a tick set, and that a register write sets none. Assumes nothing.
+use Rattle.std.specs.Prelude.{Option, Some, None}
 use Prim.Native.Nat.{ℕ, zero, suc}
 use mathlib.Core.Path.{refl}
 use mathlib.Core.List.{List}
@@ -8,7 +9,7 @@ use Rattle.descriptor.specs.Descriptor.{next_enabled}
 use Rattle.enet.specs.declared.Enet.{Enet}
 use Rattle.registers.specs.declared.Registers.{Registers}
 use Rattle.registers.specs.declared.Register.{Register}
-use Rattle.registers.specs.declared.Register.TheVariants.{Ier, Isr, RxStart, RxNext, TxStart, TxNext, TxTimeout, Mcr, Mah, Mal, Mcha, Mcla, Unmodelled}
+use Rattle.registers.specs.declared.Register.TheVariants.{Ier, Isr, RxStart, RxNext, TxStart, TxNext, TxTimeout, Mcr, Mah, Mal, Mcha, Mcla}
 use Rattle.registers.specs.Access.{register_at}
 use Rattle.writable.specs.Writable.{kept}
 use Rattle.register_write.specs.Write.{written}
@@ -63,20 +64,20 @@ tick_status_lem b =
     by_tick (λ a. Raises tick_bits b.device.registers.isr a.device.registers.isr) b.device b.memory
     unchanged unchanged (then_set tx_to refl unchanged) unchanged
 
-written_clears : (a : Register) (r : Registers) (v : ℕ) → Clears r.isr (written r a v).isr
-written_clears Ier r v = uncleared
-written_clears Isr r v = cleared_by (kept Isr v)
-written_clears RxStart r v = uncleared
-written_clears RxNext r v = uncleared
-written_clears TxStart r v = uncleared
-written_clears TxNext r v = uncleared
-written_clears TxTimeout r v = uncleared
-written_clears Mcr r v = uncleared
-written_clears Mah r v = uncleared
-written_clears Mal r v = uncleared
-written_clears Mcha r v = uncleared
-written_clears Mcla r v = uncleared
-written_clears Unmodelled r v = uncleared
+written_clears : (a : Option Register) (r : Registers) (v : ℕ) → Clears r.isr (written r a v).isr
+written_clears (Some Ier) r v = uncleared
+written_clears (Some Isr) r v = cleared_by (kept (Some Isr) v)
+written_clears (Some RxStart) r v = uncleared
+written_clears (Some RxNext) r v = uncleared
+written_clears (Some TxStart) r v = uncleared
+written_clears (Some TxNext) r v = uncleared
+written_clears (Some TxTimeout) r v = uncleared
+written_clears (Some Mcr) r v = uncleared
+written_clears (Some Mah) r v = uncleared
+written_clears (Some Mal) r v = uncleared
+written_clears (Some Mcha) r v = uncleared
+written_clears (Some Mcla) r v = uncleared
+written_clears None r v = uncleared
 
 pub write_status_lem : (b : Bench) (offset value : ℕ)
     → Clears b.device.registers.isr (call b (register_write offset value)).bench.device.registers.isr

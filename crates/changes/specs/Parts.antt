@@ -1,12 +1,12 @@
 -- For each call the parts of the device that its rule names: every other part stays. Assumes nothing.
-use Rattle.std.specs.Prelude.{ℕ, ◌≡◌, true, List, [], ◌∷◌}
+use Rattle.std.specs.Prelude.{ℕ, ◌≡◌, true, List, [], ◌∷◌, Option, Some, None}
 use Rattle.std.specs.Int.Bits.{bit_or}
 use Rattle.filter.specs.declared.Filter.{Filter}
 use Rattle.filter.specs.Filter.{with_mcr, with_mah, with_mal, with_mcha, with_mcla}
 use Rattle.engine.specs.declared.Engine.{Engine}
 use Rattle.enet.specs.declared.Enet.{Enet}
 use Rattle.registers.specs.declared.Register.{Register}
-use Rattle.registers.specs.declared.Register.TheVariants.{Ier, Isr, RxStart, RxNext, TxStart, TxNext, TxTimeout, Mcr, Mah, Mal, Mcha, Mcla, Unmodelled}
+use Rattle.registers.specs.declared.Register.TheVariants.{Ier, Isr, RxStart, RxNext, TxStart, TxNext, TxTimeout, Mcr, Mah, Mal, Mcha, Mcla}
 use Rattle.registers.specs.Registers.{tx_curr_done, tx_done, rx_curr_done, rx_done, packet_lost, tx_to}
 use Rattle.registers.specs.Registers.{with_status, with_enable, with_filter, with_txtor}
 use Rattle.engine_write.specs.EngineWrite.{next_written}
@@ -30,20 +30,20 @@ filtered d f = with_registers d (with_filter d.registers f)
 
 -- a register write changes its register, a start write whether its engine runs, its place and whether polling is enabled for it,
 -- and a write of the time-out the count of ticks: d with these of e
-abbrev pub register_of : Register → Enet → Enet → Enet
-register_of Ier d e = with_registers d (with_enable d.registers e.registers.ier)
-register_of Isr d e = status_of d e
-register_of RxStart d e = with_rx d (next_written e.registers.rx d.registers.rx.next)
-register_of RxNext d e = with_rx d (next_written d.registers.rx e.registers.rx.next)
-register_of TxStart d e = with_tx d (next_written e.registers.tx d.registers.tx.next)
-register_of TxNext d e = with_tx d (next_written d.registers.tx e.registers.tx.next)
-register_of TxTimeout d e = with_ticks (with_registers d (with_txtor d.registers e.registers.txtor)) e.counters.ticks
-register_of Mcr d e = filtered d (with_mcr d.registers.filter e.registers.filter.mcr)
-register_of Mah d e = filtered d (with_mah d.registers.filter e.registers.filter.mah)
-register_of Mal d e = filtered d (with_mal d.registers.filter e.registers.filter.mal)
-register_of Mcha d e = filtered d (with_mcha d.registers.filter e.registers.filter.mcha)
-register_of Mcla d e = filtered d (with_mcla d.registers.filter e.registers.filter.mcla)
-register_of Unmodelled d e = d
+abbrev pub register_of : Option Register → Enet → Enet → Enet
+register_of (Some Ier) d e = with_registers d (with_enable d.registers e.registers.ier)
+register_of (Some Isr) d e = status_of d e
+register_of (Some RxStart) d e = with_rx d (next_written e.registers.rx d.registers.rx.next)
+register_of (Some RxNext) d e = with_rx d (next_written d.registers.rx e.registers.rx.next)
+register_of (Some TxStart) d e = with_tx d (next_written e.registers.tx d.registers.tx.next)
+register_of (Some TxNext) d e = with_tx d (next_written d.registers.tx e.registers.tx.next)
+register_of (Some TxTimeout) d e = with_ticks (with_registers d (with_txtor d.registers e.registers.txtor)) e.counters.ticks
+register_of (Some Mcr) d e = filtered d (with_mcr d.registers.filter e.registers.filter.mcr)
+register_of (Some Mah) d e = filtered d (with_mah d.registers.filter e.registers.filter.mah)
+register_of (Some Mal) d e = filtered d (with_mal d.registers.filter e.registers.filter.mal)
+register_of (Some Mcha) d e = filtered d (with_mcha d.registers.filter e.registers.filter.mcha)
+register_of (Some Mcla) d e = filtered d (with_mcla d.registers.filter e.registers.filter.mcla)
+register_of None d e = d
 
 -- an engine that may have stopped or moved: its registers stay
 pub record SameRegisters (x y : Engine) : Type 0 where

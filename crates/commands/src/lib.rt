@@ -27,7 +27,7 @@ pub struct Told {
 pub fn within(n: usize, length: usize) -> usize
     ensures { result ≡ min n length }
 {
-    if n < length { n } else { length }
+    n.min(length)
 }
 
 // The next console after a call of the device, which gave back the next device.

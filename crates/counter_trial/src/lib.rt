@@ -17,8 +17,7 @@ use enet::{Answered, Enet, Ran};
 fn started(base: u32, window: u32, counters: Counters) -> Enet
     ensures { result ≡ started base window counters }
 {
-    let new = Enet::new(base, window);
-    let mut device = new.device;
+    let mut device = Enet::new(base, window).device;
     device.counters = counters;
     device
 }
@@ -43,19 +42,17 @@ fn played(
 fn run_numbers(ran: Ran, t: Answered) -> [u64; 9]
     ensures { result ≡ run_numbers (running ran [] []) t }
 {
-    let device = t.device;
-    let counters = device.counters;
-    let registers = device.registers;
+    let counters = t.device.counters;
     [
-        ran.number as u64,
-        ran.steps as u64,
+        u64::from(ran.number),
+        u64::from(ran.steps),
         ran.count as u64,
-        t.number as u64,
-        counters.delivered as u64,
-        counters.lost as u64,
-        counters.sent as u64,
-        counters.ticks as u64,
-        registers.isr as u64,
+        u64::from(t.number),
+        u64::from(counters.delivered),
+        u64::from(counters.lost),
+        u64::from(counters.sent),
+        u64::from(counters.ticks),
+        u64::from(t.device.registers.isr),
     ]
 }
 
@@ -63,16 +60,14 @@ fn run_numbers(ran: Ran, t: Answered) -> [u64; 9]
 fn burst_numbers(a: Answered) -> [u64; 6]
     ensures { result ≡ burst_numbers (bursting a [] []) }
 {
-    let device = a.device;
-    let counters = device.counters;
-    let registers = device.registers;
+    let counters = a.device.counters;
     [
-        a.number as u64,
-        counters.delivered as u64,
-        counters.lost as u64,
-        counters.sent as u64,
-        counters.ticks as u64,
-        registers.isr as u64,
+        u64::from(a.number),
+        u64::from(counters.delivered),
+        u64::from(counters.lost),
+        u64::from(counters.sent),
+        u64::from(counters.ticks),
+        u64::from(a.device.registers.isr),
     ]
 }
 
@@ -81,8 +76,7 @@ fn ran(device: Enet, memory: &mut [u8], output: &mut [u8], allowance: u32) -> [u
     ensures { run_told memory.new output.new result ≡ run_then_tick device memory.old output.old allowance }
 {
     let r = device.run(memory, output, allowance);
-    let next = r.device;
-    let t = next.tick(memory);
+    let t = r.device.tick(memory);
     run_numbers(r, t)
 }
 

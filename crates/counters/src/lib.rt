@@ -2,7 +2,7 @@
 #![tactic(auto)]
 
 ghost use Rattle.std.specs.Prelude.{◌≡◌};
-ghost use Rattle.counters.specs.Counters.{reset, with_ticks, one_more, after_receive, after_send};
+ghost use Rattle.counters.specs.Counters.{reset, with_ticks, after_receive, after_send};
 
 // Frames delivered, lost and sent, and the ticks in a row at which a send was stalled.
 #[derive(Clone, Copy)]
@@ -13,19 +13,9 @@ pub struct Counters {
     pub ticks: u32,
 }
 
-// One event more; a counter that has reached the stop stays there.
-fn one_more(n: u32) -> u32
-    ensures { result ≡ one_more n }
-{
-    if n < Counters::STOP {
-        return n + 1;
-    }
-    Counters::STOP
-}
-
 impl Counters {
-    // Where the counters of frames stop.
-    pub const STOP: u32 = 4294967295;
+    // Where the counters of frames stop: one that has reached it stays there.
+    pub const STOP: u32 = u32::MAX;
 
     // All four at 0.
     pub fn reset() -> Counters
@@ -51,15 +41,10 @@ impl Counters {
     pub fn after_receive(mut self, number: u32) -> Counters
         ensures { result ≡ after_receive number self }
     {
-        if number == answer::DONE {
-            let n = one_more(self.delivered);
-            self.delivered = n;
-            return self;
-        }
-        if number == answer::NOT_GRANTED {
-            let n = one_more(self.lost);
-            self.lost = n;
-            return self;
+        match number {
+            answer::DONE => self.delivered = self.delivered.saturating_add(1),
+            answer::NOT_GRANTED => self.lost = self.lost.saturating_add(1),
+            _ => {}
         }
         self
     }
@@ -69,10 +54,8 @@ impl Counters {
         ensures { result ≡ after_send number self }
     {
         if number == answer::DONE {
-            let n = one_more(self.sent);
-            self.sent = n;
+            self.sent = self.sent.saturating_add(1);
             self.ticks = 0;
-            return self;
         }
         self
     }

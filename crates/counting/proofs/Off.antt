@@ -5,13 +5,13 @@ use mathlib.Core.Bool.{Bool, true, false, not, false≢true}
 use mathlib.Core.List.{List, [], ◌∷◌}
 use lib.Dec.{eqb, ltb}
 use borrow.Author.Tests.{eq-eqb, eqb-true, eqb-false}
-use Rattle.std.specs.Prelude.{if◌then◌else◌}
+use Rattle.std.specs.Prelude.{if◌then◌else◌, Option, Some, None}
 use Rattle.rules.proofs.Choices.{by_test, by_bool}
 use Rattle.window.specs.Window.{lent}
 use Rattle.engine.specs.Engine.{not_granted}
 use Rattle.registers.specs.declared.Registers.{Registers}
 use Rattle.registers.specs.declared.Register.{Register}
-use Rattle.registers.specs.declared.Register.TheVariants.{Ier, Isr, RxStart, RxNext, TxStart, TxNext, TxTimeout, Mcr, Mah, Mal, Mcha, Mcla, Unmodelled}
+use Rattle.registers.specs.declared.Register.TheVariants.{Ier, Isr, RxStart, RxNext, TxStart, TxNext, TxTimeout, Mcr, Mah, Mal, Mcha, Mcla}
 use Rattle.registers.specs.Access.{register_at}
 use Rattle.writable.specs.Writable.{kept}
 use Rattle.register_write.specs.Write.{written}
@@ -74,56 +74,56 @@ run_off d m out allowance o =
 -- ---- a register write
 
 -- a register other than the time-out
-abbrev other : Register → Bool
-other Ier = true
-other Isr = true
-other RxStart = true
-other RxNext = true
-other TxStart = true
-other TxNext = true
-other TxTimeout = false
-other Mcr = true
-other Mah = true
-other Mal = true
-other Mcha = true
-other Mcla = true
-other Unmodelled = true
+abbrev other : Option Register → Bool
+other (Some Ier) = true
+other (Some Isr) = true
+other (Some RxStart) = true
+other (Some RxNext) = true
+other (Some TxStart) = true
+other (Some TxNext) = true
+other (Some TxTimeout) = false
+other (Some Mcr) = true
+other (Some Mah) = true
+other (Some Mal) = true
+other (Some Mcha) = true
+other (Some Mcla) = true
+other None = true
 
 other_at : (offset : ℕ) → eqb offset 0x48 ≡ false → other (register_at offset) ≡ true
 unfolding register_at
 other_at offset h =
     rw h (
-    go (eqb offset 0x04) Ier _ refl (
-    go (eqb offset 0x08) Isr _ refl (
-    go (eqb offset 0x10) RxStart _ refl (
-    go (eqb offset 0x1c) RxNext _ refl (
-    go (eqb offset 0x30) TxStart _ refl (
-    go (eqb offset 0x3c) TxNext _ refl (
-    go (eqb offset 0x400) Mcr _ refl (
-    go (eqb offset 0x404) Mah _ refl (
-    go (eqb offset 0x408) Mal _ refl (
-    go (eqb offset 0x40c) Mcha _ refl (
-    go (eqb offset 0x410) Mcla _ refl refl)))))))))))
+    go (eqb offset 0x04) (Some Ier) _ refl (
+    go (eqb offset 0x08) (Some Isr) _ refl (
+    go (eqb offset 0x10) (Some RxStart) _ refl (
+    go (eqb offset 0x1c) (Some RxNext) _ refl (
+    go (eqb offset 0x30) (Some TxStart) _ refl (
+    go (eqb offset 0x3c) (Some TxNext) _ refl (
+    go (eqb offset 0x400) (Some Mcr) _ refl (
+    go (eqb offset 0x404) (Some Mah) _ refl (
+    go (eqb offset 0x408) (Some Mal) _ refl (
+    go (eqb offset 0x40c) (Some Mcha) _ refl (
+    go (eqb offset 0x410) (Some Mcla) _ refl refl)))))))))))
   where
-    go : (t : Bool) (r s : Register) → other r ≡ true → other s ≡ true → other (if t then r else s) ≡ true
+    go : (t : Bool) (r s : Option Register) → other r ≡ true → other s ≡ true → other (if t then r else s) ≡ true
     go true r s p q = p
     go false r s p q = q
 
 -- its write leaves the time-out
-other_written : (a : Register) (r : Registers) (v : ℕ) → other a ≡ true → (written r a v).txtor ≡ r.txtor
-other_written Ier r v h = refl
-other_written Isr r v h = refl
-other_written RxStart r v h = refl
-other_written RxNext r v h = refl
-other_written TxStart r v h = refl
-other_written TxNext r v h = refl
-other_written TxTimeout r v h = absurd (false≢true h)
-other_written Mcr r v h = refl
-other_written Mah r v h = refl
-other_written Mal r v h = refl
-other_written Mcha r v h = refl
-other_written Mcla r v h = refl
-other_written Unmodelled r v h = refl
+other_written : (a : Option Register) (r : Registers) (v : ℕ) → other a ≡ true → (written r a v).txtor ≡ r.txtor
+other_written (Some Ier) r v h = refl
+other_written (Some Isr) r v h = refl
+other_written (Some RxStart) r v h = refl
+other_written (Some RxNext) r v h = refl
+other_written (Some TxStart) r v h = refl
+other_written (Some TxNext) r v h = refl
+other_written (Some TxTimeout) r v h = absurd (false≢true h)
+other_written (Some Mcr) r v h = refl
+other_written (Some Mah) r v h = refl
+other_written (Some Mal) r v h = refl
+other_written (Some Mcha) r v h = refl
+other_written (Some Mcla) r v h = refl
+other_written None r v h = refl
 
 elsewhere_off : (d : Enet) (offset v : ℕ) → eqb offset 0x48 ≡ false → Off d → Off (wrote d offset (written d.registers (register_at offset) v))
 unfolding after_write
@@ -131,7 +131,7 @@ elsewhere_off d offset v h o z = rw h (o (sym (other_written (register_at offset
 
 timeout_off : (d : Enet) (offset v : ℕ) → offset ≡ 0x48 → Off (wrote d offset (written d.registers (register_at offset) v))
 unfolding register_at after_write
-timeout_off d offset v h = rw h (λ z. rw (eq-eqb (kept TxTimeout v) 0 z))
+timeout_off d offset v h = rw h (λ z. rw (eq-eqb (kept (Some TxTimeout) v) 0 z))
 
 write_off : (b : Bench) (offset value : ℕ) → Off b.device → Off (call b (register_write offset value)).bench.device
 write_off b offset value o =

@@ -43,8 +43,7 @@ pub fn refused<P: Print>(rt: &P, number: u32, block: usize, text: &mut [u8]) -> 
 pub fn begun(base: u32, window: u32, text: &mut [u8]) -> Day
     ensures { opened result text.new ≡ opening base window text.old }
 {
-    let made = Enet::new(base, window);
-    let device = made.device;
+    let device = Enet::new(base, window).device;
     let waiting = day_reports::placed(text, 0, b"window", base, window as u64);
     Day { device, waiting }
 }

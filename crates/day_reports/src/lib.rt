@@ -38,6 +38,7 @@ pub fn refused(text: &mut [u8], at: usize, number: u32, block: u64) -> usize
 }
 
 // What an event answered, and the bytes that it sent.
+#[tactic(auto, unfolding(crate::specs::DayReports::event_says))]
 pub fn event(text: &mut [u8], at: usize, found: Found, number: u32, sent: &[u8]) -> usize
     ensures { written result text.new ≡ put text.old at (event_says found number sent.now) }
 {
@@ -46,7 +47,6 @@ pub fn event(text: &mut [u8], at: usize, found: Found, number: u32, sent: &[u8])
         Found::Grant(_) => replies::numbered(text, at, b"grant", number as u64),
         Found::Frame(_, _) => replies::numbered(text, at, b"frame", number as u64),
         Found::Send => reports::shown(text, at, b"send", number, sent),
-        Found::Cut => text::put(text, at, b""),
-        Found::NoEvent => text::put(text, at, b""),
+        Found::Cut | Found::NoEvent => text::put(text, at, b""),
     }
 }

@@ -15,8 +15,7 @@ use Rattle.memory.proofs.Stores.{part_back}
 use Rattle.event.specs.Event.{Event}
 use Rattle.event.specs.Walk.{walk}
 use Rattle.stream.specs.Stream.{event_bytes}
-use Rattle.trace.specs.declared.Summary.{Summary}
-use Rattle.trace.specs.Reading.{look}
+use Rattle.trace.specs.Reading.{Summary, look}
 use Rattle.trace.proofs.Good.{look_given, header_right, events_whole}
 use Rattle.enet.specs.Device.{new}
 use Rattle.playback.specs.Playing.{Played, act, play}

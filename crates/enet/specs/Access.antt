@@ -1,8 +1,8 @@
 -- 01, "Registers": register accesses and the interrupt line, of the device. They lend no memory. Assumes nothing.
 use Rattle.std.specs.Prelude.{ℕ, Bool}
-use Rattle.registers.specs.declared.Found.{Found}
 use Rattle.registers.specs.declared.Change.{Change}
 use Rattle.registers.specs.Registers as registers
+use Rattle.registers.specs.Access.{Found}
 use Rattle.registers.specs.Access as access
 use Rattle.register_write.specs.Write as register_write
 use Rattle.ticking.specs.Tick.{after_write}

@@ -18,6 +18,7 @@ impl Ran {
 
 impl Enet {
     // Single sends into what the last one left of the output, until one does not send or none is left to make.
+    #[tactic(auto, unfolding(crate::specs::Run::sends))]
     fn sends(self, memory: &mut [u8], output: &mut [u8], left: u32) -> Ran
         ensures { running result memory.new output.new ≡ sends left self memory.old output.old }
     {
@@ -44,6 +45,7 @@ impl Enet {
     }
 
     // The step run: at most `allowance` single sends, or the refusal 10.
+    #[tactic(auto, unfolding(crate::specs::Run::run))]
     pub fn run(self, memory: &mut [u8], output: &mut [u8], allowance: u32) -> Ran
         ensures { running result memory.new output.new ≡ run self memory.old output.old allowance }
     {

@@ -39,10 +39,8 @@ impl Engine {
     pub fn led_to(mut self, word: u32) -> Engine
         ensures { result ≡ led_to self word }
     {
-        let place = address::place_of(word);
-        let polling = address::polls(word);
-        self.place = place;
-        self.polling = polling;
+        self.place = address::place_of(word);
+        self.polling = address::polls(word);
         self
     }
 
@@ -55,12 +53,10 @@ impl Engine {
     }
 
     // Its descriptor is not granted: without polling the engine stops; with polling it looks again.
+    #[tactic(auto, unfolding(crate::specs::Engine::not_granted))]
     pub fn not_granted(self) -> Engine
         ensures { result ≡ not_granted self }
     {
-        if self.polling {
-            return self;
-        }
-        self.stopped()
+        if self.polling { self } else { self.stopped() }
     }
 }

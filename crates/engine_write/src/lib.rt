@@ -7,6 +7,7 @@ ghost use Rattle.engine_write.specs.EngineWrite.{start_written, next_written};
 use engine::Engine;
 
 // A start write.
+#[tactic(auto, unfolding(crate::specs::EngineWrite::start_written))]
 pub fn start_written(mut e: Engine, v: u32) -> Engine
     ensures { result ≡ start_written e v }
 {
@@ -18,9 +19,8 @@ pub fn start_written(mut e: Engine, v: u32) -> Engine
         return e;
     }
     if v / Engine::START_FETCH % 2 == 1 {
-        let mut started = e.led_to(e.next);
-        started.running = true;
-        return started;
+        e = e.led_to(e.next);
+        e.running = true;
     }
     e
 }

@@ -37,13 +37,11 @@ pub struct Walked {
 }
 
 // A byte that an event can begin with.
+#[tactic(auto, unfolding(crate::specs::Sizes::begins))]
 fn begins(first: u8) -> bool
     ensures { result ≡ begins first }
 {
-    if first == 0 {
-        return false;
-    }
-    first <= 4
+    first != 0 && first <= 4
 }
 
 // What is behind the last whole event: so many bytes, and the first of them.
@@ -51,12 +49,12 @@ pub fn ends(first: u8, left: usize) -> Ending
     ensures { result ≡ ending_by first left }
 {
     if left == 0 {
-        return Ending::Whole;
+        Ending::Whole
+    } else if begins(first) {
+        Ending::Cut
+    } else {
+        Ending::NoEvent
     }
-    if begins(first) {
-        return Ending::Cut;
-    }
-    Ending::NoEvent
 }
 
 // So many bytes, if they are left.
@@ -74,19 +72,19 @@ pub fn size(first: u8, four: u32, left: usize) -> usize
     if left == 0 {
         return 0;
     }
-    if first == 1 {
-        return within(left, 9);
-    }
-    if first == 2 {
-        return within(left, 5);
-    }
-    if first == 3 {
-        if left < 5 {
-            return 0;
+    match first {
+        1 => within(left, 9),
+        2 => within(left, 5),
+        3 => {
+            if left < 5 {
+                0
+            } else {
+                within(left, 5 + four as usize)
+            }
         }
-        return within(left, 5 + four as usize);
+        4 => 1,
+        _ => 0,
     }
-    if first == 4 { 1 } else { 0 }
 }
 
 // The size of the event at a place of a list, 0 where there is none.
@@ -127,9 +125,10 @@ fn none(first: u8) -> Found
     ensures { result ≡ none_by first }
 {
     if begins(first) {
-        return Found::Cut;
+        Found::Cut
+    } else {
+        Found::NoEvent
     }
-    Found::NoEvent
 }
 
 // What stands at a place of a list.
@@ -145,14 +144,10 @@ pub fn at(list: &[u8], place: usize) -> Found
     if n == 0 {
         return none(first);
     }
-    if first == 1 {
-        return Found::RegisterWrite(four, memory::word(list, place + 5));
+    match first {
+        1 => Found::RegisterWrite(four, memory::word(list, place + 5)),
+        2 => Found::Grant(four),
+        3 => Found::Frame(place + 5, four as usize),
+        _ => Found::Send,
     }
-    if first == 2 {
-        return Found::Grant(four);
-    }
-    if first == 3 {
-        return Found::Frame(place + 5, four as usize);
-    }
-    Found::Send
 }

@@ -12,30 +12,17 @@ ghost use Rattle.appending.specs.Put.{put_of, put};
 fn write_bytes(offset: u32, value: u32) -> [u8; 9]
     ensures { result ≡ bytes_of (register_write offset value) }
 {
-    [
-        1,
-        (offset % 256) as u8,
-        (offset / 256 % 256) as u8,
-        (offset / 256 / 256 % 256) as u8,
-        (offset / 256 / 256 / 256 % 256) as u8,
-        (value % 256) as u8,
-        (value / 256 % 256) as u8,
-        (value / 256 / 256 % 256) as u8,
-        (value / 256 / 256 / 256 % 256) as u8,
-    ]
+    let [a, b, c, d] = offset.to_le_bytes();
+    let [e, f, g, h] = value.to_le_bytes();
+    [1, a, b, c, d, e, f, g, h]
 }
 
 // A first byte, and a number in four.
 fn numbered(first: u8, n: usize) -> [u8; 5]
     ensures { result ≡ first ∷ word_bytes n }
 {
-    [
-        first,
-        (n % 256) as u8,
-        (n / 256 % 256) as u8,
-        (n / 256 / 256 % 256) as u8,
-        (n / 256 / 256 / 256 % 256) as u8,
-    ]
+    let [a, b, c, d, ..] = n.to_le_bytes();
+    [first, a, b, c, d]
 }
 
 pub fn write(list: &mut [u8], at: usize, offset: u32, value: u32) -> usize

@@ -1,5 +1,6 @@
 -- Demand 3 speaks of the hash mode: on a ring of one a frame to a group whose bit is set finds no grant and is lost, and is delivered when it comes again
 -- behind a grant; a frame to another group is turned away both times, and counts for neither. Assumes nothing.
+use Rattle.std.specs.Prelude.{Some}
 use Prim.Native.Nat.{ℕ}
 use mathlib.Core.Path.{◌≡◌, refl}
 use mathlib.Core.List.{List, [], ◌∷◌, ◌++◌}
@@ -42,7 +43,7 @@ use Rattle.examples.proofs.Examples.{first, ring, granting, coming, ring_of_one}
 -- the ring of one in mode 001b, receive-all off, with bit 3 of multicast hash low and no other
 abbrev by_hash : Bench
 by_hash = record {
-  device = made first 1536 (written (written (ring 1).device.registers Mcr 0x0002_0000) Mcla 0x0000_0008) counters.reset;
+  device = made first 1536 (written (written (ring 1).device.registers (Some Mcr) 0x0002_0000) (Some Mcla) 0x0000_0008) counters.reset;
   memory = (ring 1).memory;
 }
 

@@ -1,5 +1,6 @@
 -- A send that does not get on: its descriptor is granted, sending runs, and the time-out is 2. Two ticks are counted, and the third
 -- sets TX_TO (000D0001h with the status at reset) and starts the count again. Assumes nothing.
+use Rattle.std.specs.Prelude.{Some}
 use mathlib.Core.Path.{◌≡◌, refl, ap}
 use mathlib.Core.List.{◌++◌}
 use native.Mathlib.Omega.{arith}
@@ -22,7 +23,7 @@ use Rattle.counting.proofs.Ticks.{fires_behind}
 -- a window of 64 bytes from 0 on, with one descriptor at its front
 abbrev bench : Bench
 bench = record {
-  device = made 0 64 (written (written registers.reset TxTimeout 2) TxStart 5) counters.reset;
+  device = made 0 64 (written (written registers.reset (Some TxTimeout) 2) (Some TxStart) 5) counters.reset;
   memory = replicate 12 0 ++ word_bytes 0x0001_0000 ++ replicate 48 0;
 }
 

@@ -3,10 +3,12 @@
 
 mod messages;
 
+use answer::Refusal;
 use capturing::Day;
 use pcap_export::Exported;
 use recorded_days::Loaded;
 use std::rt::{Env, Files};
+use stream::Refused;
 use trace::Summary;
 
 // A trace of 4,096 blocks. Once its events are read, the frames of the day are listed here.
@@ -29,12 +31,12 @@ fn load<R: Env + Files + Print>(
     rt: &R,
     trace: &mut [u8; TRACE],
     memory: &mut [u8; MEMORY],
-) -> Loaded {
+) -> Option<Loaded> {
     recorded_days::load(rt, trace, memory)
 }
 
 // What the trace says, and its events in one piece.
-fn read(loaded: Loaded, trace: &[u8; TRACE], events: &mut [u8; ROOM]) -> Summary {
+fn read(loaded: Loaded, trace: &[u8; TRACE], events: &mut [u8; ROOM]) -> Result<Summary, Refused> {
     recorded_days::read(loaded, trace, events)
 }
 
@@ -71,7 +73,7 @@ fn capture(
 }
 
 // The capture of the frames that are listed.
-fn export(list: &[u8; TRACE], n: usize, room: &mut [u8; ROOM]) -> Exported {
+fn export(list: &[u8; TRACE], n: usize, room: &mut [u8; ROOM]) -> Result<Exported, Refusal> {
     pcap_export::export(memory::part(list, 0, n), room)
 }
 
@@ -84,16 +86,16 @@ fn save<R: Env + Files + Print>(rt: &R, room: &[u8; ROOM], n: usize) -> u32 {
 fn save_day<R: Env + Files + Print>(rt: &R, day: Day, list: &[u8; TRACE], room: &mut [u8; ROOM]) {
     let kept = day.kept;
     if kept.full {
-        messages::refused(rt, answer::CAPTURE_ROOM);
+        messages::refused(rt, Refusal::CaptureRoom);
         return;
     }
-    let exported = export(list, kept.bytes, room);
-    if exported.number != answer::DONE {
-        messages::refused(rt, exported.number);
-        return;
-    }
-    if save(rt, room, exported.bytes) == 0 {
-        messages::exported(rt, exported.frames);
+    match export(list, kept.bytes, room) {
+        Ok(exported) => {
+            if save(rt, room, exported.bytes) == 0 {
+                messages::exported(rt, exported.frames);
+            }
+        }
+        Err(refusal) => messages::refused(rt, refusal),
     }
 }
 
@@ -105,13 +107,13 @@ fn export_day<R: Env + Files + Print>(
     memory: &mut [u8; MEMORY],
 ) {
     let mut room = [0u8; ROOM];
-    let summary = read(loaded, trace, &mut room);
-    if summary.number != answer::DONE {
-        messages::refused_trace(rt, summary.number, summary.block);
-        return;
+    match read(loaded, trace, &mut room) {
+        Ok(summary) => {
+            let day = capture(summary, &room, memory, loaded.memory, trace);
+            save_day(rt, day, trace, &mut room);
+        }
+        Err(refused) => messages::refused_trace(rt, refused),
     }
-    let day = capture(summary, &room, memory, loaded.memory, trace);
-    save_day(rt, day, trace, &mut room);
 }
 
 fn main(rt: HostRuntime) {
@@ -121,8 +123,7 @@ fn main(rt: HostRuntime) {
     }
     let mut trace = [0u8; TRACE];
     let mut memory = [0u8; MEMORY];
-    let loaded = load(&rt, &mut trace, &mut memory);
-    if loaded.ok {
+    if let Some(loaded) = load(&rt, &mut trace, &mut memory) {
         export_day(&rt, loaded, &mut trace, &mut memory);
     }
 }

@@ -1,4 +1,7 @@
 // What the program says on standard output.
+use answer::Refusal;
+use stream::Refused;
+
 // Room for one line.
 const LINE: usize = 64;
 
@@ -10,8 +13,8 @@ fn numbered_line(line: &mut [u8; LINE], word: &[u8], n: u64) -> usize {
     replies::numbered(line, 0, word, n)
 }
 
-fn refused_line(line: &mut [u8; LINE], number: u32, block: usize) -> usize {
-    day_reports::refused(line, 0, number, block as u64)
+fn refused_line(line: &mut [u8; LINE], refused: Refused) -> usize {
+    day_reports::refused(line, 0, u32::from(refused.refusal), refused.block as u64)
 }
 
 pub(crate) fn exported<P: Print>(rt: &P, frames: usize) {
@@ -21,15 +24,15 @@ pub(crate) fn exported<P: Print>(rt: &P, frames: usize) {
 }
 
 // A refusal of the export.
-pub(crate) fn refused<P: Print>(rt: &P, number: u32) {
+pub(crate) fn refused<P: Print>(rt: &P, refusal: Refusal) {
     let mut line = [0u8; LINE];
-    let n = numbered_line(&mut line, b"refused", number as u64);
+    let n = numbered_line(&mut line, b"refused", u64::from(u32::from(refusal)));
     write(rt, &line, n);
 }
 
 // A refusal of the trace, with its block where the reason is a block's.
-pub(crate) fn refused_trace<P: Print>(rt: &P, number: u32, block: usize) {
+pub(crate) fn refused_trace<P: Print>(rt: &P, refused: Refused) {
     let mut line = [0u8; LINE];
-    let n = refused_line(&mut line, number, block);
+    let n = refused_line(&mut line, refused);
     write(rt, &line, n);
 }

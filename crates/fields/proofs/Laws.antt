@@ -4,7 +4,10 @@ use mathlib.Core.List.{List, [], ◌∷◌, ◌++◌}
 use Prim.Native.Nat.{ℕ, zero, suc, ◌+◌, ◌-◌, ◌/◌, ◌%◌, ◌≤◌, ◌<◌}
 use native.Mathlib.Numerals.{add-one}
 use native.Mathlib.Omega.{arith}
-use borrow.Author.Tests.{lt-ltb, le-ltb, eq-eqb, ne_eqb}
+use borrow.Author.Tests.{lt-ltb, le-ltb}
+use lib.Dec.{eqb}
+use mathlib.Core.Bool.{Bool, true, false}
+use Rattle.std.specs.Int.{w32, to_be_bytes}
 use lib.ListN.{length, get_or, drop, drop_of_length-le}
 use lib.Seq.{drop-cons}
 use Rattle.words.specs.Words.{characters}
@@ -73,19 +76,19 @@ pair_is t at b high low x h l e = rw (← h, ← l) e
 -- ---- fields, each behind a space
 
 module _ (t : List ℕ) (at : ℕ) (x : Text) where
-  pub bytes_none : (s : List ℕ) → length s ≡ 0 → x ≡ put t at (characters " -") → x ≡ put t at (bytes s)
+  pub bytes_none : (s : List ℕ) (none : Bool) → none ≡ eqb (length s) 0 → none ≡ true → x ≡ put t at (characters " -") → x ≡ put t at (bytes s)
   unfolding bytes
-  bytes_none s l e = rw (eq-eqb (length s) 0 l) e
+  bytes_none s none l y e = rw (sym l ∙ y) e
 
   module _ (t' : List ℕ) (end : ℕ) (space : written end t' ≡ put t at (characters " ")) where
-    pub bytes_some : (s : List ℕ) → (length s ≡ 0 → ⊥) → x ≡ put t' end (pairs s) → x ≡ put t at (bytes s)
+    pub bytes_some : (s : List ℕ) (none : Bool) → none ≡ eqb (length s) 0 → none ≡ false → x ≡ put t' end (pairs s) → x ≡ put t at (bytes s)
     unfolding bytes
-    bytes_some s l e = rw (ne_eqb (length s) 0 l) (put_then t t' at end (characters " ") (pairs s) x space e)
+    bytes_some s none l y e = rw (sym l ∙ y) (put_then t t' at end (characters " ") (pairs s) x space e)
 
     pub number_is : (n : ℕ) → x ≡ put t' end (digits 20 n) → x ≡ put t at (number n)
     unfolding number
     number_is n e = put_then t t' at end (characters " ") (digits 20 n) x space e
 
-    pub value_is : (v : ℕ) → x ≡ put t' end (pairs (v / 0x100_0000 % 256 ∷ v / 0x1_0000 % 256 ∷ v / 256 % 256 ∷ v % 256 ∷ [])) → x ≡ put t at (value v)
+    pub value_is : (v : ℕ) (s : List ℕ) → s ≡ to_be_bytes w32 v → x ≡ put t' end (pairs s) → x ≡ put t at (value v)
     unfolding value
-    value_is v e = put_then t t' at end (characters " ") _ x space e
+    value_is v s q e = put_then t t' at end (characters " ") _ x space (rw q at e)

@@ -34,10 +34,7 @@ fn glyph(d: u8) -> u8
     requires { d < 16 }
     ensures { result ≡ glyph_of d }
 {
-    if d < 10 {
-        return b'0' + d;
-    }
-    87 + d
+    if d < 10 { b'0' + d } else { b'a' - 10 + d }
 }
 
 // The two digits of a byte, with no space before them.
@@ -53,10 +50,8 @@ fn pairs(text: &mut [u8], at: usize, s: &[u8]) -> usize
     ensures { written result text.new ≡ put_into text.old at (pairs_of s.now) }
 {
     let mut end = at;
-    let mut i = 0;
-    while i < s.len() {
-        end = pair(text, end, s[i]);
-        i += 1;
+    for b in s {
+        end = pair(text, end, *b);
     }
     end
 }
@@ -65,7 +60,7 @@ fn pairs(text: &mut [u8], at: usize, s: &[u8]) -> usize
 pub fn bytes(text: &mut [u8], at: usize, s: &[u8]) -> usize
     ensures { written result text.new ≡ put_into text.old at (bytes_of s.now) }
 {
-    if s.len() == 0 {
+    if s.is_empty() {
         return text::put(text, at, b" -");
     }
     let end = text::character(text, at, b' ');
@@ -77,9 +72,5 @@ pub fn value(text: &mut [u8], at: usize, v: u32) -> usize
     ensures { written result text.new ≡ put_into text.old at (value_of v) }
 {
     let end = text::character(text, at, b' ');
-    let a = (v / 0x100_0000 % 256) as u8;
-    let b = (v / 0x1_0000 % 256) as u8;
-    let c = (v / 256 % 256) as u8;
-    let d = (v % 256) as u8;
-    pairs(text, end, &[a, b, c, d])
+    pairs(text, end, &v.to_be_bytes())
 }

@@ -4,18 +4,17 @@
 
 mod reading;
 
-ghost use Rattle.std.specs.Prelude.{◌≤◌, min, ◌≡◌, length, take};
+ghost use Rattle.std.specs.Prelude.{◌≤◌, min, ◌≡◌, length, take, IfOk, IfSome};
 
 use arguments::WORD;
 use std::fs::File;
+use std::io::{Error, ErrorKind, Result};
 use std::rt::{Env, Files};
 use std::str;
 
-// What came of reading a file: whether it could be opened and read, how many of its bytes are at the buffer's front, and
-// whether it has more than those.
+// What was read of a file: how many of its bytes are at the buffer's front, and whether it has more than those.
 #[derive(Clone, Copy)]
 pub struct Got {
-    pub ok: bool,
     pub count: usize,
     pub more: bool,
 }
@@ -25,48 +24,29 @@ pub fn within(n: usize, buffer: &[u8]) -> usize
     ensures least { result ≡ min n (length buffer.now) }
     ensures front { (result ≤ length buffer.now) × (result ≡ length (take result buffer.now)) }
 {
-    if n < buffer.len() { n } else { buffer.len() }
+    n.min(buffer.len())
 }
 
 // Reads a file until it ends or the buffer is full. A folder cannot be read, nor a file whose name is no UTF-8.
-fn read<R: Files>(rt: &R, path: &[u8], buffer: &mut [u8]) -> Got
-    ensures { result.count ≤ length buffer.new }
+fn read<R: Files>(rt: &R, path: &[u8], buffer: &mut [u8]) -> Result<Got>
+    ensures { IfOk result (λ got. got.count ≤ length buffer.new) }
 {
     let Ok(name) = str::from_utf8(path) else {
-        return reading::failed();
+        return Err(Error::from(ErrorKind::InvalidInput));
     };
-    match File::open(rt, name) {
-        Ok(mut file) => reading::read_all(&mut file, buffer),
-        Err(_) => reading::failed(),
-    }
+    let mut file = File::open(rt, name)?;
+    reading::read_all(&mut file, buffer)
 }
 
-// The same, and where it cannot be read says so.
-fn read_or_say<R: Files + Print>(rt: &R, path: &[u8], buffer: &mut [u8]) -> Got
-    ensures { result.count ≤ length buffer.new }
-{
-    let got = read(rt, path, buffer);
-    if !got.ok {
-        arguments::wrong(rt, path);
-    }
-    got
-}
-
-// Puts an argument at the front of a buffer, and answers its length.
-fn argument<R: Env>(rt: &R, i: usize, name: &mut [u8; WORD]) -> usize {
-    arguments::fetch(rt, i, name)
-}
-
-// The name of so many characters.
-fn named(name: &[u8; WORD], n: usize) -> &[u8] {
-    memory::part(name, 0, n)
-}
-
-// Reads the file that an argument names, or says on standard output that it cannot be read: `error NAME`.
-pub fn load<R: Env + Files + Print>(rt: &R, i: usize, buffer: &mut [u8]) -> Got
-    ensures { result.count ≤ length buffer.new }
+// Reads the file that an argument names. Where it cannot be read, that is said on standard output: `error NAME`.
+pub fn load<R: Env + Files + Print>(rt: &R, i: usize, buffer: &mut [u8]) -> Option<Got>
+    ensures { IfSome result (λ got. got.count ≤ length buffer.new) }
 {
     let mut name = [0u8; WORD];
-    let n = argument(rt, i, &mut name);
-    read_or_say(rt, named(&name, n), buffer)
+    let n = arguments::fetch(rt, i, &mut name);
+    let got = read(rt, &name[..n], buffer).ok();
+    if got.is_none() {
+        arguments::wrong(rt, &name[..n]);
+    }
+    got
 }

@@ -14,12 +14,6 @@ pub struct Filter {
     pub mcla: u32,
 }
 
-// A station address, its bytes in the order in which they are sent.
-#[derive(Clone, Copy)]
-pub struct Station {
-    pub bytes: [u8; 6],
-}
-
 impl Filter {
     // Receive all, bit 31 of MAC control (RM0006 8.4.21).
     pub const RA: u32 = 0x8000_0000;
@@ -41,7 +35,7 @@ impl Filter {
 pub fn receive_all(control: u32) -> bool
     ensures { result ≡ receive_all control }
 {
-    control / Filter::RA % 2 == 1
+    control & Filter::RA != 0
 }
 
 // The filter mode that MAC control selects.
@@ -51,18 +45,11 @@ pub fn filter_mode(control: u32) -> u32
     control / Filter::AFM_UNIT % Filter::AFM_MODES
 }
 
-// The station address as on the wire.
-pub fn station_address(high: u32, low: u32) -> Station
-    ensures { result.bytes ≡ station_address high low }
+// The station address, its bytes in the order in which they are sent.
+pub fn station_address(high: u32, low: u32) -> [u8; 6]
+    ensures { result ≡ station_address high low }
 {
-    Station {
-        bytes: [
-            (low % 0x100) as u8,
-            (low / 0x100 % 0x100) as u8,
-            (low / 0x1_0000 % 0x100) as u8,
-            (low / 0x100_0000 % 0x100) as u8,
-            (high % 0x100) as u8,
-            (high / 0x100 % 0x100) as u8,
-        ],
-    }
+    let [a, b, c, d] = low.to_le_bytes();
+    let [e, f, ..] = high.to_le_bytes();
+    [a, b, c, d, e, f]
 }

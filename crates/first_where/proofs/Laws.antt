@@ -1,45 +1,44 @@
--- The laws of the first place at which a test holds: how a loop along the list finds it, and what is there and before it.
+-- The laws of the first place at which a test holds: that `position` finds it, and what is there and before it.
 -- Assumes nothing.
-use Prim.Native.Nat.{ℕ, zero, suc, ◌+◌, ◌≤◌, ◌<◌}
-use mathlib.Core.Path.{◌≡◌}
+use Prim.Native.Nat.{ℕ, zero, suc, ◌≤◌, ◌<◌}
+use mathlib.Core.Path.{◌≡◌, refl}
 use mathlib.Core.Bool.{Bool, true, false}
 use mathlib.Core.List.{List, [], ◌∷◌}
 use native.Mathlib.Omega.{arith}
-use native.Mathlib.Nat.{add-zero, not-suc-le-zero, le_of_suc-le-suc}
-use native.Mathlib.Numerals.{add-one}
-use lib.ListN.{length, get_or, drop, drop_of_length-le}
-use lib.Seq.{drop-cons}
+use native.Mathlib.Nat.{not-suc-le-zero, le_of_suc-le-suc}
+use native.Mathlib.Numerals.{one-add}
+use lib.Dec.{ltb}
+use lib.ListN.{length, get_or}
+use borrow.Author.Tests.{ltb-false}
+use Rattle.std.specs.Prelude.{Option}
+use Rattle.std.specs.Option.{unwrap_or}
+use Rattle.std.specs.List.{position, position_or_len}
+use Rattle.std.proofs.lemmas.List.Recursion.{is_position_or_len}
 use Rattle.rules.proofs.Choices.{by_bool}
 use Rattle.first_where.specs.First.{first_where}
 
 module _ {A : Type 0} (t : A → Bool) where
-  -- ---- a loop along the list
-
-  -- the test holds where the loop stands
-  pub found_here : (l : List A) (i : ℕ) (d : A) → i < length l → t (get_or l i d) ≡ true
-      → i + first_where t (drop i l) ≡ first_where t l → i ≡ first_where t l
-  unfolding first_where
-  found_here l i d h e inv = rw (drop-cons l i d h, e, add-zero i) at inv
-
-  -- it does not: one place further
-  pub found_later : (l : List A) (i : ℕ) (d : A) → i < length l → t (get_or l i d) ≡ false
-      → i + first_where t (drop i l) ≡ first_where t l → (i + 1) + first_where t (drop (i + 1) l) ≡ first_where t l
-  unfolding first_where
-  found_later l i d h e inv =
-      let g : i + suc (first_where t (drop (suc i) l)) ≡ first_where t l = rw (drop-cons l i d h, e) at inv in
-      rw (add-one i) (omega arith)
-
-  -- the end of the list
-  pub found_nowhere : (l : List A) (i : ℕ) → length l ≤ i → i + first_where t (drop i l) ≡ first_where t l → i ≡ first_where t l
-  unfolding first_where
-  found_nowhere l i h inv = rw (drop_of_length-le l h, add-zero i) at inv
-
   -- ---- what the first place is
 
   pub first_within : (l : List A) → first_where t l ≤ length l
   unfolding first_where
   first_within [] = omega arith
   first_within (a ∷ l) = by_bool (t a) (λ e. rw e (omega arith)) (λ e. let h = first_within l in rw e (omega arith))
+
+  -- ---- the list searched by `position`
+
+  searched : (l : List A) → first_where t l ≡ position_or_len t l
+  searched = is_position_or_len (first_where t) t (unfold first_where in refl) (λ a l. unfold first_where in rw (one-add (first_where t l)))
+
+  pub found : (l : List A) (r : Option ℕ) → r ≡ position t l → unwrap_or r (length l) ≡ first_where t l
+  found l r e =
+      by_bool (ltb (position_or_len t l) (length l))
+      (λ y. rw (e, searched l, y))
+      (λ n.
+      let h = first_within l in
+      let g = ltb-false (position_or_len t l) (length l) n in
+      let k : length l ≡ position_or_len t l = omega (arith, searched l) in
+      rw (e, searched l, n) k)
 
   -- the test holds there
   pub first_holds : (l : List A) (d : A) → first_where t l < length l → t (get_or l (first_where t l) d) ≡ true

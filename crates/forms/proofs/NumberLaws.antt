@@ -8,23 +8,51 @@ use native.Mathlib.Omega.{arith}
 use borrow.Author.Tests.{lt-ltb, le-ltb, le-leb, lt-leb}
 use lib.ListN.{length, get_or, drop, drop_of_length-le}
 use lib.Seq.{drop-cons}
-use Rattle.forms.specs.declared.numbers.Number.{Number}
-use Rattle.forms.specs.declared.numbers.Number.TheVariants.{Is, Wrong}
+use Rattle.std.specs.Prelude.{Option, Some, None, unwrap_or}
+use Rattle.std.specs.Option.{SomeIff}
+use Rattle.std.specs.Char.{digit_value}
 use Rattle.forms.specs.Numbers.{digit, number_from, number_of, decimal}
 
+-- ---- a digit, as std has it
+
+digit_is : (c : ℕ) → digit_value c < 16 → digit_value c ≡ digit c
+unfolding digit
+digit_is c h = grind arith
+
+no_digit : (c : ℕ) → 16 ≤ digit_value c → 16 ≡ digit c
+unfolding digit
+no_digit c h = grind arith
+
+digit_of : (c : ℕ) (r : Option ℕ) → SomeIff r (digit_value c < 16) (digit_value c) → unwrap_or r 16 ≡ digit c
+digit_of c None h = no_digit c (omega (arith, h))
+digit_of c (Some d) h = h.1 ∙ digit_is c h.0
+
+pub digit_told : (c k : ℕ) (r : Option ℕ) → k ≡ c → SomeIff r (digit_value k < 16) (digit_value k) → unwrap_or r 16 ≡ digit c
+digit_told c k r e h = rw e at (digit_of k r h)
+
+-- ---- the loop
+
 -- what a character of the word adds, with the number so far and the character's digit in hand
-module _ (base n : ℕ) (w : List ℕ) (i d : ℕ) (so_far : number_of base w ≡ number_from base n (drop i w)) where
-  pub number_more : i < length w → d ≡ digit (get_or w i 0) → d < base → number_of base w ≡ number_from base (n * base + d) (drop (i + 1) w)
-  number_more h is l =
-      let e : number_from base n (drop i w) ≡ number_from base (n * base + d) (drop (i + 1) w) = rw (add-one, drop-cons w i 0 h, ← is, lt-leb base d l) in
+module _ (base n : ℕ) (w : List ℕ) (i : ℕ) (so_far : number_of base w ≡ number_from base n (drop i w)) (h : i < length w) (o : Option ℕ) (is : unwrap_or o 16 ≡ digit (get_or w i 0)) where
+  pub number_more : (d : ℕ) → o ≡ Some d → d < base → number_of base w ≡ number_from base (n * base + d) (drop (i + 1) w)
+  number_more d p l =
+      let k : d ≡ digit (get_or w i 0) = rw p at is in
+      let e : number_from base n (drop i w) ≡ number_from base (n * base + d) (drop (i + 1) w) = rw (add-one, drop-cons w i 0 h, ← k, lt-leb base d l) in
       so_far ∙ e
 
-  pub number_stop : i < length w → d ≡ digit (get_or w i 0) → base ≤ d → Wrong ≡ number_of base w
-  number_stop h is l =
-      let e : number_from base n (drop i w) ≡ Wrong = rw (drop-cons w i 0 h, ← is, le-leb base d l) in
+  pub number_stop : (d : ℕ) → o ≡ Some d → base ≤ d → None ≡ number_of base w
+  number_stop d p l =
+      let k : d ≡ digit (get_or w i 0) = rw p at is in
+      let e : number_from base n (drop i w) ≡ None = rw (drop-cons w i 0 h, ← k, le-leb base d l) in
       sym (so_far ∙ e)
 
-pub number_end : (base n : ℕ) (w : List ℕ) (i : ℕ) → number_of base w ≡ number_from base n (drop i w) → length w ≤ i → Is n ≡ number_of base w
+  pub number_no_digit : (r : Option ℕ) → o ≡ None → base ≤ 16 → r ≡ None → r ≡ number_of base w
+  number_no_digit r p l q =
+      let k : 16 ≡ digit (get_or w i 0) = rw p at is in
+      let e : number_from base n (drop i w) ≡ None = rw (drop-cons w i 0 h, ← k, le-leb base 16 l) in
+      q ∙ sym (so_far ∙ e)
+
+pub number_end : (base n : ℕ) (w : List ℕ) (i : ℕ) → number_of base w ≡ number_from base n (drop i w) → length w ≤ i → Some n ≡ number_of base w
 number_end base n w i so_far h = sym (rw (drop_of_length-le w {i = i} h) at so_far)
 
 -- one digit more, and that the eighth still fits
@@ -43,15 +71,15 @@ product_fits base n d i k b h l m e = omega (arith, digit_fits base n d i k b h 
 
 -- ---- a limit
 
-module _ (word : List ℕ) (most : ℕ) (r : Number) (is : r ≡ number_of 10 word) where
-  pub decimal_wrong : r ≡ Wrong → Wrong ≡ decimal word most
+module _ (word : List ℕ) (most : ℕ) (r : Option ℕ) (is : r ≡ number_of 10 word) where
+  pub decimal_wrong : (x : Option ℕ) → r ≡ None → x ≡ None → x ≡ decimal word most
   unfolding decimal
-  decimal_wrong e = rw (← is, e)
+  decimal_wrong x e h = rw (← is, e) h
 
-  pub decimal_over : (n : ℕ) → r ≡ Is n → most < n → Wrong ≡ decimal word most
+  pub decimal_over : (n : ℕ) → r ≡ Some n → most < n → None ≡ decimal word most
   unfolding decimal
   decimal_over n e h = rw (← is, e, lt-ltb most n h)
 
-  pub decimal_is : (n : ℕ) → r ≡ Is n → n ≤ most → Is n ≡ decimal word most
+  pub decimal_is : (n : ℕ) → r ≡ Some n → n ≤ most → Some n ≡ decimal word most
   unfolding decimal
   decimal_is n e h = rw (← is, e, le-ltb most n h)

@@ -1,6 +1,6 @@
 -- Laws of bytes in words: the turns of the loops over the characters and over the pairs. Assumes nothing.
 use mathlib.Core.Path.{◌≡◌, refl, sym, ap, ◌∙◌}
-use mathlib.Core.Bool.{true, false}
+use mathlib.Core.Bool.{Bool, true, false, not, false≢true, true≢false}
 use mathlib.Core.List.{List, [], ◌∷◌}
 use Prim.Native.Nat.{ℕ, suc, ◌+◌, ◌*◌, ◌/◌, ◌≤◌, ◌<◌}
 use native.Mathlib.Numerals.{add-one}
@@ -8,20 +8,31 @@ use native.Mathlib.Omega.{arith}
 use borrow.Author.Tests.{le-leb, lt-leb}
 use lib.ListN.{length, get_or, set, drop, drop_of_length-le, length-drop}
 use lib.Seq.{sets, drop-cons}
+use Rattle.std.specs.Prelude.{Option, Some, None, is_some, unwrap_or, IfSome}
 use Rattle.memory.specs.Memory.{store}
 use Rattle.forms.specs.Numbers.{digit}
 use Rattle.forms.specs.Pairs.{all_digits, byte_of, bytes_of, decoded, decode}
 
+value_below : (o : Option ℕ) → IfSome o (λ d. d < 16) → is_some o ≡ true → unwrap_or o 16 < 16
+value_below None l p = absurd (false≢true p)
+value_below (Some d) l p = l
+
+no_value : (o : Option ℕ) → is_some o ≡ false → 16 ≤ unwrap_or o 16
+no_value None p = omega arith
+no_value (Some d) p = absurd (true≢false p)
+
 -- what a character of the word says, with its digit in hand
-module _ (w : List ℕ) (i d : ℕ) (so_far : all_digits w ≡ all_digits (drop i w)) where
-  pub digits_more : i < length w → d ≡ digit (get_or w i 0) → d < 16 → all_digits w ≡ all_digits (drop (i + 1) w)
-  digits_more h is l =
-      let e : all_digits (drop i w) ≡ all_digits (drop (i + 1) w) = rw (add-one, drop-cons w i 0 h, ← is, lt-leb 16 d l) in
+module _ (w : List ℕ) (i : ℕ) (so_far : all_digits w ≡ all_digits (drop i w)) (h : i < length w) (o : Option ℕ) (is : unwrap_or o 16 ≡ digit (get_or w i 0)) where
+  pub digits_more : (n : Bool) → IfSome o (λ d. d < 16) → is_some o ≡ not n → n ≡ false → all_digits w ≡ all_digits (drop (i + 1) w)
+  digits_more n l q p =
+      let k : digit (get_or w i 0) < 16 = rw is at (value_below o l (rw p at q)) in
+      let e : all_digits (drop i w) ≡ all_digits (drop (i + 1) w) = rw (add-one, drop-cons w i 0 h, lt-leb 16 (digit (get_or w i 0)) k) in
       so_far ∙ e
 
-  pub digits_stop : i < length w → d ≡ digit (get_or w i 0) → 16 ≤ d → false ≡ all_digits w
-  digits_stop h is l =
-      let e : all_digits (drop i w) ≡ false = rw (drop-cons w i 0 h, ← is, le-leb 16 d l) in
+  pub digits_stop : (n : Bool) → is_some o ≡ not n → n ≡ true → false ≡ all_digits w
+  digits_stop n q p =
+      let k : 16 ≤ digit (get_or w i 0) = rw is at (no_value o (rw p at q)) in
+      let e : all_digits (drop i w) ≡ false = rw (drop-cons w i 0 h, le-leb 16 (digit (get_or w i 0)) k) in
       sym (so_far ∙ e)
 
 pub digits_end : (w : List ℕ) (i : ℕ) → all_digits w ≡ all_digits (drop i w) → length w ≤ i → true ≡ all_digits w

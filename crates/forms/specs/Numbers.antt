@@ -1,8 +1,7 @@
 -- A word of 1 to 8 digits as a number. Assumes nothing.
 use Rattle.std.specs.Prelude.{ℕ, ◌+◌, ◌-◌, ◌*◌, List, [], ◌∷◌, eqb, ltb, leb, length}
+use Rattle.std.specs.Prelude.{Option, Some, None}
 use Rattle.std.specs.Prelude.{if◌then◌else◌}
-use Rattle.forms.specs.declared.numbers.Number.{Number}
-use Rattle.forms.specs.declared.numbers.Number.TheVariants.{Is, Wrong}
 
 -- what a hexadecimal digit stands for, in either case: `0` to `9`, `A` to `F`, `a` to `f`. 16 for any other character
 unfoldable pub digit : ℕ → ℕ
@@ -16,24 +15,24 @@ digit c =
     16
 
 -- n, and then the digits of a base, the most significant first
-abbrev pub number_from : ℕ → ℕ → List ℕ → Number
-number_from base n [] = Is n
-number_from base n (c ∷ s) = if leb base (digit c) then Wrong else number_from base (n * base + digit c) s
+abbrev pub number_from : ℕ → ℕ → List ℕ → Option ℕ
+number_from base n [] = Some n
+number_from base n (c ∷ s) = if leb base (digit c) then None else number_from base (n * base + digit c) s
 
 -- "1 to 8 digits"
-unfoldable pub number_of : ℕ → List ℕ → Number
+unfoldable pub number_of : ℕ → List ℕ → Option ℕ
 number_of base word =
-    if eqb (length word) 0 then Wrong else
-    if ltb 8 (length word) then Wrong else
+    if eqb (length word) 0 then None else
+    if ltb 8 (length word) then None else
     number_from base 0 word
 
-unfoldable pub hexadecimal : List ℕ → Number
+unfoldable pub hexadecimal : List ℕ → Option ℕ
 hexadecimal word = number_of 16 word
 
 -- a number over its limit is wrong
-abbrev pub up_to : ℕ → Number → Number
-up_to most (Is n) = if ltb most n then Wrong else Is n
-up_to most Wrong = Wrong
+abbrev pub up_to : ℕ → Option ℕ → Option ℕ
+up_to most (Some n) = if ltb most n then None else Some n
+up_to most None = None
 
-unfoldable pub decimal : List ℕ → ℕ → Number
+unfoldable pub decimal : List ℕ → ℕ → Option ℕ
 decimal word most = up_to most (number_of 10 word)

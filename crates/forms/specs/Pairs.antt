@@ -1,9 +1,8 @@
 -- A word as bytes: pairs of hexadecimal digits, or `-` for none. Assumes nothing.
 use Rattle.std.specs.Prelude.{ℕ, ◌+◌, ◌*◌, ◌/◌, ◌%◌, Bool, true, false, not, List, [], ◌∷◌, eqb, ltb, leb, length, take}
+use Rattle.std.specs.Prelude.{Option, Some, None}
 use Rattle.std.specs.Prelude.{if◌then◌else◌}
 use Rattle.memory.specs.Memory.{store}
-use Rattle.forms.specs.declared.numbers.Number.{Number}
-use Rattle.forms.specs.declared.numbers.Number.TheVariants.{Is, Wrong}
 use Rattle.forms.specs.Numbers.{digit}
 use Rattle.words.specs.Words.{characters, is}
 
@@ -13,14 +12,14 @@ all_digits [] = true
 all_digits (c ∷ s) = if leb 16 (digit c) then false else all_digits s
 
 -- how many bytes a word names: "pairs of hexadecimal digits, either case, or `-` for no bytes". No line holds a longer word
-unfoldable pub byte_count : List ℕ → Number
+unfoldable pub byte_count : List ℕ → Option ℕ
 byte_count word =
-    if is word (characters "-") then Is 0 else
-    if eqb (length word) 0 then Wrong else
-    if ltb 4096 (length word) then Wrong else
-    if eqb (length word % 2) 1 then Wrong else
-    if not (all_digits word) then Wrong else
-    Is (length word / 2)
+    if is word (characters "-") then Some 0 else
+    if eqb (length word) 0 then None else
+    if ltb 4096 (length word) then None else
+    if eqb (length word % 2) 1 then None else
+    if not (all_digits word) then None else
+    Some (length word / 2)
 
 -- the byte of two digits. Of other characters it is some byte, which nobody asks for
 unfoldable pub byte_of : ℕ → ℕ → ℕ

@@ -1,76 +1,46 @@
 // Numbers in words: 1 to 8 digits, hexadecimal in either case, or decimal up to a limit.
-ghost use Rattle.std.specs.Prelude.{◌≡◌, ◌<◌, ◌≤◌};
+ghost use Rattle.std.specs.Prelude.{◌≡◌, ◌<◌, ◌≤◌, unwrap_or, IfSome};
 ghost use Rattle.forms.specs.Numbers.{digit, number_of, hexadecimal, decimal};
 
-#[derive(Clone, Copy)]
-pub enum Number {
-    Is(u32),
-    Wrong,
-}
-
-// What a digit stands for. 16 for a character that is no digit.
-pub(crate) fn digit(c: u8) -> u32
-    ensures { (result ≡ digit c) × (result ≤ 16) }
+// What a digit stands for, in either case. None for a character that is no digit.
+pub(crate) fn digit(c: u8) -> Option<u32>
+    ensures value { unwrap_or result 16 ≡ digit c }
+    ensures below { IfSome result (λ d. d < 16) }
 {
-    if c < b'0' {
-        return 16;
-    }
-    if c <= b'9' {
-        return (c - b'0') as u32;
-    }
-    if c < b'A' {
-        return 16;
-    }
-    if c <= b'F' {
-        return (c - b'A') as u32 + 10;
-    }
-    if c < b'a' {
-        return 16;
-    }
-    if c <= b'f' {
-        return (c - b'a') as u32 + 10;
-    }
-    16
+    char::from(c).to_digit(16)
 }
 
 // The number of a word of 1 to 8 digits of a base.
-fn number_of(word: &[u8], base: u32) -> Number
+fn number_of(word: &[u8], base: u32) -> Option<u32>
     requires { base ≤ 16 }
     ensures { result ≡ number_of base word.now }
 {
-    if word.len() == 0 {
-        return Number::Wrong;
+    if word.is_empty() || 8 < word.len() {
+        return None;
     }
-    if 8 < word.len() {
-        return Number::Wrong;
-    }
-    let mut n: u32 = 0;
-    let mut i = 0;
-    while i < word.len() {
-        let d = digit(word[i]);
+    let mut n = 0;
+    for c in word {
+        let d = digit(*c)?;
         if base <= d {
-            return Number::Wrong;
+            return None;
         }
         n = n * base + d;
-        i += 1;
     }
-    Number::Is(n)
+    Some(n)
 }
 
-pub fn hexadecimal(word: &[u8]) -> Number
+pub fn hexadecimal(word: &[u8]) -> Option<u32>
     ensures { result ≡ hexadecimal word.now }
 {
     number_of(word, 16)
 }
 
-pub fn decimal(word: &[u8], most: u32) -> Number
+pub fn decimal(word: &[u8], most: u32) -> Option<u32>
     ensures { result ≡ decimal word.now most }
 {
-    let Number::Is(n) = number_of(word, 10) else {
-        return Number::Wrong;
-    };
+    let n = number_of(word, 10)?;
     if most < n {
-        return Number::Wrong;
+        return None;
     }
-    Number::Is(n)
+    Some(n)
 }

@@ -1,14 +1,12 @@
--- Four single-bit steps by an entry of the table, eight by two entries, and the turns of a loop over the bytes. Assumes nothing.
+-- Four single-bit steps by an entry of the table, and eight by two entries. Assumes nothing.
 use mathlib.Core.Path.{◌≡◌, refl, sym, ap, ap₂, ◌∙◌}
 use mathlib.Core.List.{List}
 use Prim.Native.Nat.{ℕ, zero, suc, ◌+◌, ◌*◌, ◌/◌, ◌%◌, ◌^◌, ◌<◌, ◌≤◌}
 use native.Mathlib.Nat.{add-zero, add-suc, suc-add, zero-add, le_of_suc-le-suc, not-suc-le-zero, div-div-eq-div-mul}
-use native.Mathlib.Numerals.{add-one}
 use native.Mathlib.Omega.{arith}
 use lib.Bits.{bit_xor, xor_shr, xor_mod}
-use lib.ListN.{length, get_or, drop, drop_of_length-le}
-use lib.Seq.{drop-cons}
-use Rattle.half_bytes.specs.Clocks.{clock, clocks, bytes_in, feedback802}
+use lib.ListN.{get_or}
+use Rattle.half_bytes.specs.Clocks.{clock, clocks, feedback802}
 use Rattle.half_bytes.specs.HalfBytes.{tabulate, half_bytes}
 use Rattle.half_bytes.proofs.Clocks.{clocks_low}
 
@@ -77,12 +75,3 @@ module _ (x : ℕ) where
 pub by_entries : (x : ℕ) (t : List ℕ) → t ≡ half_bytes feedback802
     → bit_xor (bit_xor (x / 2 ^ 8) (get_or t (x % 16) 0 / 2 ^ 4)) (get_or t (bit_xor (x / 2 ^ 4) (x % 4 * 4) % 16) 0) ≡ clocks feedback802 8 x
 by_entries x t e = rw e (side_by_side x)
-
--- ---- A loop over the bytes
-
-pub byte_turn : (f r : ℕ) (s : List ℕ) (i : ℕ) → i < length s
-    → bytes_in f r (drop i s) ≡ bytes_in f (clocks f 8 (bit_xor r (get_or s i 0))) (drop (i + 1) s)
-byte_turn f r s i h = rw (add-one, drop-cons s i 0 h)
-
-pub byte_end : (f r : ℕ) (s : List ℕ) (i : ℕ) → length s ≤ i → bytes_in f r (drop i s) ≡ r
-byte_end f r s i h = ap (bytes_in f r) (drop_of_length-le s {i = i} h)

@@ -10,13 +10,7 @@ fn index(destination: &[u8]) -> u32
     ensures { result ≡ hash_index destination.now }
 {
     let register = !fcs::check_number(destination);
-    let x31 = register % 2;
-    let x30 = register / 2 % 2;
-    let x29 = register / 2 / 2 % 2;
-    let x28 = register / 2 / 2 / 2 % 2;
-    let x27 = register / 2 / 2 / 2 / 2 % 2;
-    let x26 = register / 2 / 2 / 2 / 2 / 2 % 2;
-    x31 * 32 + x30 * 16 + x29 * 8 + x28 * 4 + x27 * 2 + x26
+    register.reverse_bits() >> 26
 }
 
 // The hash register that an index selects.

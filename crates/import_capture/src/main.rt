@@ -4,11 +4,11 @@
 mod messages;
 mod parameters;
 
+use answer::Refusal;
 use files::Got;
 use parameters::Window;
 use pcap_import::Imported;
 use std::rt::{Env, Files};
-use trace_writing::Written;
 
 // The longest capture that is read.
 const CAPTURE: usize = 2_097_152;
@@ -22,12 +22,12 @@ const EVENTS: usize = CAPTURE;
 const TIMES: usize = CAPTURE / 2;
 
 // The capture into the first bytes of its buffer.
-fn load_first<R: Env + Files + Print>(rt: &R, buffer: &mut [u8]) -> Got {
+fn load_first<R: Env + Files + Print>(rt: &R, buffer: &mut [u8]) -> Option<Got> {
     let k = files::within(CAPTURE, buffer);
     files::load(rt, 1, &mut buffer[..k])
 }
 
-fn load<R: Env + Files + Print>(rt: &R, buffer: &mut [u8; TRACE]) -> Got {
+fn load<R: Env + Files + Print>(rt: &R, buffer: &mut [u8; TRACE]) -> Option<Got> {
     load_first(rt, buffer)
 }
 
@@ -37,12 +37,17 @@ fn import(
     n: usize,
     events: &mut [u8; EVENTS],
     times: &mut [u8; TIMES],
-) -> Imported {
+) -> Result<Imported, Refusal> {
     pcap_import::import(memory::part(file, 0, n), events, times)
 }
 
 // A trace of the events.
-fn write(window: Window, events: &[u8; EVENTS], n: usize, trace: &mut [u8; TRACE]) -> Written {
+fn write(
+    window: Window,
+    events: &[u8; EVENTS],
+    n: usize,
+    trace: &mut [u8; TRACE],
+) -> Result<usize, Refusal> {
     trace_writing::write(
         window.base,
         window.length,
@@ -73,13 +78,13 @@ fn save_events<R: Env + Files + Print>(
     times: &[u8; TIMES],
     trace: &mut [u8; TRACE],
 ) {
-    let written = write(window, events, imported.bytes, trace);
-    if written.number != answer::DONE {
-        messages::refused(rt, written.number);
-        return;
-    }
-    if save(rt, trace, written.blocks) == 0 {
-        messages::imported(rt, imported.frames, times);
+    match write(window, events, imported.bytes, trace) {
+        Ok(blocks) => {
+            if save(rt, trace, blocks) == 0 {
+                messages::imported(rt, imported.frames, times);
+            }
+        }
+        Err(refusal) => messages::refused(rt, refusal),
     }
 }
 
@@ -92,23 +97,20 @@ fn import_file<R: Env + Files + Print>(
 ) {
     let mut events = [0u8; EVENTS];
     let mut times = [0u8; TIMES];
-    let imported = import(buffer, count, &mut events, &mut times);
-    if imported.number != answer::DONE {
-        messages::refused(rt, imported.number);
-        return;
+    match import(buffer, count, &mut events, &mut times) {
+        Ok(imported) => save_events(rt, window, imported, &events, &times, buffer),
+        Err(refusal) => messages::refused(rt, refusal),
     }
-    save_events(rt, window, imported, &events, &times, buffer);
 }
 
 // Reads the capture. One that is longer than the room is refused, whatever is in it.
 fn import_window<R: Env + Files + Print>(rt: &R, window: Window) {
     let mut buffer = [0u8; TRACE];
-    let read = load(rt, &mut buffer);
-    if !read.ok {
+    let Some(read) = load(rt, &mut buffer) else {
         return;
-    }
+    };
     if read.more {
-        messages::refused(rt, answer::IMPORT_ROOM);
+        messages::refused(rt, Refusal::ImportRoom);
         return;
     }
     import_file(rt, window, read.count, &mut buffer);

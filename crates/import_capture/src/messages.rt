@@ -1,5 +1,6 @@
 // What the program says on standard output. A capture may have many frames, so lines wait until there are many to write.
 use crate::TIMES;
+use answer::Refusal;
 
 // Text that waits to be written.
 const TEXT: usize = 65_536;
@@ -16,8 +17,8 @@ fn write_past<P: Print>(rt: &P, most: usize, text: &[u8; TEXT], waiting: usize) 
     0
 }
 
-fn refused_line(text: &mut [u8; TEXT], number: u32) -> usize {
-    replies::numbered(text, 0, b"refused", number as u64)
+fn refused_line(text: &mut [u8; TEXT], refusal: Refusal) -> usize {
+    replies::numbered(text, 0, b"refused", u64::from(u32::from(refusal)))
 }
 
 fn first_line(text: &mut [u8; TEXT], frames: usize) -> usize {
@@ -54,9 +55,9 @@ fn told(times: &[u8; TIMES], frames: usize) -> &[u8] {
     memory::part(times, 0, TIMES)
 }
 
-pub(crate) fn refused<P: Print>(rt: &P, number: u32) {
+pub(crate) fn refused<P: Print>(rt: &P, refusal: Refusal) {
     let mut text = [0u8; TEXT];
-    let n = refused_line(&mut text, number);
+    let n = refused_line(&mut text, refusal);
     write_past(rt, 0, &text, n);
 }
 

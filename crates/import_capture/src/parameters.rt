@@ -1,7 +1,6 @@
 // The arguments that are words: a window's base address and length, as in the console.
 use arguments::WORD;
 use forms::numbers;
-use forms::numbers::Number;
 use std::rt::Env;
 
 // Whether both words are of their form, and what they say.
@@ -39,11 +38,11 @@ fn wrong<P: Print>(rt: &P, word: &[u8]) -> Window {
 // The window of a base address and a length.
 fn of_words<P: Print>(rt: &P, base: &[u8], length: &[u8]) -> Window {
     let b = numbers::hexadecimal(base);
-    let Number::Is(base_number) = b else {
+    let Some(base_number) = b else {
         return wrong(rt, base);
     };
     let l = numbers::decimal(length, 99_999_999);
-    let Number::Is(length_number) = l else {
+    let Some(length_number) = l else {
         return wrong(rt, length);
     };
     Window {

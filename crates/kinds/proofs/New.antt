@@ -6,8 +6,7 @@ use mathlib.Core.List.{List}
 use lib.Dec.{ltb}
 use lib.ListN.{length}
 use Rattle.std.specs.Prelude.{if◌then◌else◌}
-use Rattle.forms.specs.declared.numbers.Number.{Number}
-use Rattle.forms.specs.declared.numbers.Number.TheVariants.{Is, Wrong}
+use Rattle.std.specs.Prelude.{Option, Some, None}
 use Rattle.forms.specs.Numbers.{hexadecimal, decimal}
 use Rattle.forms.specs.Pairs.{byte_count}
 use Rattle.pair_words.specs.PairWords.{pairs_behind}
@@ -23,11 +22,11 @@ abbrev Not : Call → Type 0
 Not c = renews c.command ≡ false
 
 -- another command with its numbers
-not_given : (k : Command) (a b : Number) → renews k ≡ false → Not (given k a b)
+not_given : (k : Command) (a b : Option ℕ) → renews k ≡ false → Not (given k a b)
 unfolding given
-not_given k Wrong b e = refl
-not_given k (Is x) Wrong e = refl
-not_given k (Is x) (Is y) e = e
+not_given k None b e = refl
+not_given k (Some x) None e = refl
+not_given k (Some x) (Some y) e = e
 
 -- by a name
 either_name : (t : Bool) (x y : Call) → Not x → Not y → Not (if t then x else y)

@@ -16,8 +16,7 @@ use forms::pairs;
 pub fn answered(console: Console, a: Answered, name: &[u8], text: &mut [u8], at: usize) -> Told
     ensures { (result.console ≡ with_device console a.device) × (written result.end text.new ≡ put text.old at (numbered name.now a.number)) }
 {
-    let n = a.number as u64;
-    let end = replies::numbered(text, at, name, n);
+    let end = replies::numbered(text, at, name, u64::from(a.number));
     commands::next(console, a.device, end)
 }
 
@@ -29,17 +28,11 @@ pub fn grant(console: Console, address: u32, memory: &mut [u8], text: &mut [u8],
     answered(console, a, b"grant", text, at)
 }
 
-// Room for the bytes that a line names.
-fn blank() -> [u8; 2048]
-    ensures { 2048 ≡ length result }
-{
-    [0; 2048]
-}
-
 pub fn frame(console: Console, word: &[u8], memory: &mut [u8], text: &mut [u8], at: usize) -> Told
     ensures { given result memory.new text.new ≡ tells (frame console memory.old (named word.now)) text.old at }
 {
-    let mut bytes = blank();
+    // Room for the bytes that a line names.
+    let mut bytes = [0; 2048];
     let n = pairs::decode(word, &mut bytes);
     let k = commands::within(console.lent, memory.len());
     let a = console

@@ -5,7 +5,7 @@ use mathlib.Core.List.{List}
 use native.Mathlib.Omega.{arith}
 use lib.Dec.{eqb, ltb}
 use lib.ListN.{length}
-use Rattle.std.specs.Prelude.{if◌then◌else◌}
+use Rattle.std.specs.Prelude.{if◌then◌else◌, is_some}
 use Rattle.rules.proofs.Choices.{by_test}
 use Rattle.lines.specs.declared.Input.{Input}
 use Rattle.lines.specs.Taking.{Taken, left, before_feed, taken, take}
@@ -24,6 +24,6 @@ pub turn_less : (i j k : Input) (chunk chunk' line line' : List ℕ) → 0 < i.p
     → k.parts < i.parts
 turn_less i j k chunk chunk' line line' h e m =
     let p : j.parts ≡ i.parts - 1 = ap (λ (x : Taken). x.input.parts) e ∙ part_counted i chunk line in
-    let q : k.parts ≡ (if j.ended then j else read j k.to).parts = ap (λ (x : Input). x.parts) m.next in
-    let l : (if j.ended then j else read j k.to).parts ≤ j.parts = by_test (λ (x : Input). x.parts ≤ j.parts) j.ended j (read j k.to) (λ e. omega arith) (λ e. read_gives_none j k.to) in
+    let q : k.parts ≡ (if is_some j.ended then j else read j k.to).parts = ap (λ (x : Input). x.parts) m.next in
+    let l : (if is_some j.ended then j else read j k.to).parts ≤ j.parts = by_test (λ (x : Input). x.parts ≤ j.parts) (is_some j.ended) j (read j k.to) (λ e. omega arith) (λ e. read_gives_none j k.to) in
     omega arith

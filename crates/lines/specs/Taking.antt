@@ -1,5 +1,5 @@
 -- Parts of the input, and the lines that they make: docs/CONSOLE.md, "Lines and words". Assumes nothing.
-use Rattle.std.specs.Prelude.{ℕ, ◌+◌, ◌-◌, ◌^◌, true, false, List, ltb, length, drop, take as front}
+use Rattle.std.specs.Prelude.{ℕ, ◌+◌, ◌-◌, ◌^◌, Some, None, List, ltb, length, drop, take as front}
 use Rattle.scanning.specs.Scanning.{index_of}
 use Rattle.std.specs.Prelude.{if◌then◌else◌}
 use Rattle.text.specs.Text.{put}
@@ -7,7 +7,7 @@ use Rattle.lines.specs.declared.Input.{Input}
 
 -- before the first read
 abbrev pub begin : Input
-begin = record { from = 0; to = 0; kept = 0; ended = false; last = 0; parts = 2 ^ 64 - 1 }
+begin = record { from = 0; to = 0; kept = 0; ended = None; parts = 2 ^ 64 - 1 }
 
 -- what is left of the chunk at hand: the characters from index `from` up to index `to`
 abbrev pub left : Input → List ℕ → List ℕ
@@ -19,11 +19,11 @@ before_feed s = index_of 10 s
 
 -- behind the line feed the next line begins
 abbrev pub ends : Input → ℕ → ℕ → Input
-ends i n kept = record { from = i.from + n + 1; to = i.to; kept = 0; ended = true; last = kept; parts = i.parts - 1 }
+ends i n kept = record { from = i.from + n + 1; to = i.to; kept = 0; ended = Some kept; parts = i.parts - 1 }
 
 -- without one the line goes on in the next chunk, and nothing is left of this one
 abbrev pub goes_on : Input → ℕ → Input
-goes_on i kept = record { from = 0; to = 0; kept = kept; ended = false; last = 0; parts = i.parts - 1 }
+goes_on i kept = record { from = 0; to = 0; kept = kept; ended = None; parts = i.parts - 1 }
 
 -- how far reading is behind a part, and the buffer of the line
 pub record Taken : Type 0 where

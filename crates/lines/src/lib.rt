@@ -2,7 +2,7 @@
 // is not kept. A last part that no line feed follows is a line if it has a character.
 #![tactic(auto)]
 
-ghost use Rattle.std.specs.Prelude.{◌≡◌, ◌-◌, ◌≤◌, length};
+ghost use Rattle.std.specs.Prelude.{◌≡◌, ◌≤◌, length};
 ghost use Rattle.lines.specs.Taking.{begin, taken, take};
 ghost use Rattle.lines.specs.Reading.{More};
 
@@ -23,10 +23,8 @@ pub struct Input {
     pub to: usize,
     // So many characters are kept of the line at hand.
     pub kept: usize,
-    // Whether the part ended a line,
-    pub ended: bool,
-    // and how many characters are kept of that one.
-    pub last: usize,
+    // Where the part ended a line, how many characters are kept of that one.
+    pub ended: Option<usize>,
     // A proved loop has to end, and nothing says that an input does. So the parts that are taken of it are counted down,
     // from a number that no input uses up. Where the input has ended none is left.
     pub parts: usize,
@@ -40,34 +38,25 @@ pub fn begin() -> Input
         from: 0,
         to: 0,
         kept: 0,
-        ended: false,
-        last: 0,
+        ended: None,
         parts: usize::MAX,
     }
-}
-
-// a less b, or 0.
-fn less(a: usize, b: usize) -> usize
-    ensures { result ≡ a - b }
-{
-    if a < b { 0 } else { a - b }
 }
 
 // Takes a part of the input: what the chunk at hand has of the line at hand, with its end if that is there.
 pub fn take(input: Input, chunk: &[u8; CHUNK], line: &mut [u8; LINE]) -> Input
     ensures { taken result line.new ≡ take input chunk.now line.old }
 {
-    let left = memory::part(chunk, input.from, less(input.to, input.from));
-    let n = scanning::find(left, b'\n');
+    let left = memory::part(chunk, input.from, input.to.saturating_sub(input.from));
+    let n = scanning::find(left, b'\n').unwrap_or(left.len());
     let kept = text::put(line, input.kept, memory::part(left, 0, n));
-    let parts = less(input.parts, 1);
+    let parts = input.parts.saturating_sub(1);
     if n < left.len() {
         return Input {
             from: input.from + n + 1,
             to: input.to,
             kept: 0,
-            ended: true,
-            last: kept,
+            ended: Some(kept),
             parts,
         };
     }
@@ -75,8 +64,7 @@ pub fn take(input: Input, chunk: &[u8; CHUNK], line: &mut [u8; LINE]) -> Input
         from: 0,
         to: 0,
         kept,
-        ended: false,
-        last: 0,
+        ended: None,
         parts,
     }
 }
@@ -85,17 +73,14 @@ pub fn take(input: Input, chunk: &[u8; CHUNK], line: &mut [u8; LINE]) -> Input
 fn got<R: Read>(from: &mut R, chunk: &mut [u8; CHUNK]) -> usize
     ensures { result ≤ length chunk.new }
 {
-    match from.read(chunk) {
-        Ok(n) => n,
-        Err(_) => 0,
-    }
+    from.read(chunk).unwrap_or(0)
 }
 
 // Where that part ended no line, reads the next chunk; where there is none, the input has ended.
 pub fn more<R: Read>(input: Input, from: &mut R, chunk: &mut [u8; CHUNK]) -> Input
     ensures { More input result chunk.old chunk.new }
 {
-    if input.ended {
+    if input.ended.is_some() {
         return input;
     }
     let to = got(from, chunk);
@@ -104,8 +89,7 @@ pub fn more<R: Read>(input: Input, from: &mut R, chunk: &mut [u8; CHUNK]) -> Inp
             from: 0,
             to: 0,
             kept: 0,
-            ended: 0 < input.kept,
-            last: input.kept,
+            ended: (0 < input.kept).then_some(input.kept),
             parts: 0,
         };
     }
@@ -113,8 +97,7 @@ pub fn more<R: Read>(input: Input, from: &mut R, chunk: &mut [u8; CHUNK]) -> Inp
         from: 0,
         to,
         kept: input.kept,
-        ended: false,
-        last: 0,
+        ended: None,
         parts: input.parts,
     }
 }

@@ -10,7 +10,7 @@ ghost use Rattle.list_reports.specs.ListReports.{listed};
 fn one(text: &mut [u8], at: usize, n: u32) -> usize
     ensures { written result text.new ≡ put text.old at (number n) }
 {
-    fields::number(text, at, n as u64)
+    fields::number(text, at, u64::from(n))
 }
 
 // All of them.
@@ -19,10 +19,8 @@ fn numbers(text: &mut [u8], at: usize, s: &[u32]) -> usize
     ensures { written result text.new ≡ put text.old at (each number s.now) }
 {
     let mut end = at;
-    let mut i = 0;
-    while i < s.len() {
-        end = one(text, end, s[i]);
-        i += 1;
+    for n in s {
+        end = one(text, end, *n);
     }
     end
 }

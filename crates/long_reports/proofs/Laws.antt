@@ -2,6 +2,7 @@
 use Prim.Native.Nat.{ℕ}
 use mathlib.Core.Path.{◌≡◌}
 use mathlib.Core.Bool.{Bool, true, false}
+use Rattle.std.specs.Int.{from_bool}
 use mathlib.Core.List.{List, ◌++◌}
 use Rattle.text.specs.Text.{Text, written, put}
 use Rattle.text.proofs.Laws.{put_then}
@@ -18,11 +19,11 @@ ran_is t t₁ t₂ t₃ at end₁ end₂ end₃ name n steps count s x e₁ e₂
     let g = put_then t t₂ at end₂ (name ++ counts n steps count) (bytes s) (written end₃ t₃) f e₃ in
     put_then t t₃ at end₃ (name ++ counts n steps count ++ bytes s) newline x g h
 
-pub counts_is : (t t₁ t₂ : List ℕ) (at end₁ end₂ n steps count : ℕ) (x : Text) → written end₁ t₁ ≡ put t at (number n)
-    → written end₂ t₂ ≡ put t₁ end₁ (number steps) → x ≡ put t₂ end₂ (number count) → x ≡ put t at (counts n steps count)
+pub counts_is : (t t₁ t₂ : List ℕ) (at end₁ end₂ n n' steps steps' count : ℕ) (x : Text) → n' ≡ n → written end₁ t₁ ≡ put t at (number n')
+    → steps' ≡ steps → written end₂ t₂ ≡ put t₁ end₁ (number steps') → x ≡ put t₂ end₂ (number count) → x ≡ put t at (counts n steps count)
 unfolding counts
-counts_is t t₁ t₂ at end₁ end₂ n steps count x e₁ e₂ h =
-    let f = put_then t t₁ at end₁ (number n) (number steps) (written end₂ t₂) e₁ e₂ in
+counts_is t t₁ t₂ at end₁ end₂ n n' steps steps' count x p e₁ q e₂ h =
+    let f = put_then t t₁ at end₁ (number n) (number steps) (written end₂ t₂) (rw p at e₁) (rw q at e₂) in
     put_then t t₂ at end₂ (number n ++ number steps) (number count) x f h
 
 pub engines_is : (t t₁ t₂ t₃ : List ℕ) (at end₁ end₂ end₃ : ℕ) (name : List ℕ) (rx tx : Bool) (p q : ℕ) (x : Text) → written end₁ t₁ ≡ put t at name
@@ -34,12 +35,9 @@ engines_is t t₁ t₂ t₃ at end₁ end₂ end₃ name rx tx p q x e₁ e₂ e
     let g = put_then t t₂ at end₂ (name ++ engine rx p) (engine tx q) (written end₃ t₃) f e₃ in
     put_then t t₃ at end₃ (name ++ engine rx p ++ engine tx q) newline x g h
 
--- an engine that runs, and one that does not
-module _ (t t₁ : List ℕ) (at end₁ place : ℕ) (running : Bool) (x : Text) (h : x ≡ put t₁ end₁ (value place)) where
-  pub engine_runs : running ≡ true → written end₁ t₁ ≡ put t at (number 1) → x ≡ put t at (engine running place)
-  unfolding engine
-  engine_runs r e = rw r (put_then t t₁ at end₁ (number 1) (value place) x e h)
-
-  pub engine_stands : running ≡ false → written end₁ t₁ ≡ put t at (number 0) → x ≡ put t at (engine running place)
-  unfolding engine
-  engine_stands r e = rw r (put_then t t₁ at end₁ (number 0) (value place) x e h)
+-- whether an engine runs, as a number
+pub engine_is : (t t₁ : List ℕ) (at end₁ n place : ℕ) (running : Bool) (x : Text) → n ≡ from_bool running → written end₁ t₁ ≡ put t at (number n)
+    → x ≡ put t₁ end₁ (value place) → x ≡ put t at (engine running place)
+unfolding engine
+engine_is t t₁ at end₁ n place true x q e h = rw q at (put_then t t₁ at end₁ (number n) (value place) x e h)
+engine_is t t₁ at end₁ n place false x q e h = rw q at (put_then t t₁ at end₁ (number n) (value place) x e h)

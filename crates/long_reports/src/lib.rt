@@ -9,8 +9,8 @@ ghost use Rattle.long_reports.specs.LongReports.{counts, ran, engine, engines};
 fn counts(text: &mut [u8], at: usize, n: u32, steps: u32, count: usize) -> usize
     ensures { written result text.new ≡ put text.old at (counts n steps count) }
 {
-    let end = fields::number(text, at, n as u64);
-    let end = fields::number(text, end, steps as u64);
+    let end = fields::number(text, at, u64::from(n));
+    let end = fields::number(text, end, u64::from(steps));
     fields::number(text, end, count as u64)
 }
 
@@ -36,11 +36,7 @@ pub fn ran(
 fn engine(text: &mut [u8], at: usize, running: bool, place: u32) -> usize
     ensures { written result text.new ≡ put text.old at (engine running place) }
 {
-    if running {
-        let end = fields::number(text, at, 1);
-        return fields::value(text, end, place);
-    }
-    let end = fields::number(text, at, 0);
+    let end = fields::number(text, at, u64::from(running));
     fields::value(text, end, place)
 }
 

@@ -1,35 +1,50 @@
 -- What the functions of this crate leave, as their definitions say it. Assumes nothing.
-use mathlib.Core.Path.{◌≡◌, refl, sym, ◌∙◌}
-use mathlib.Core.Logic.{◌⊎◌, inl, inr}
-use mathlib.Core.List.{List, [], ◌∷◌}
-use Prim.Native.Nat.{ℕ, suc, ◌+◌, ◌/◌, ◌%◌, ◌-◌, ◌≤◌, ◌<◌}
-use native.Mathlib.Nat.{add-suc, add-sub_cancel_left}
-use native.Mathlib.Numerals.{add-one, add-two, add-three}
+use mathlib.Core.Path.{◌≡◌, refl, sym, ap, ◌∙◌}
+use mathlib.Core.List.{List, [], ◌∷◌, ◌++◌}
+use Prim.Native.Nat.{ℕ, suc, ◌+◌, ◌-◌, ◌/◌, ◌^◌, ◌≤◌, ◌<◌}
+use native.Mathlib.Nat.{add-zero, add-suc, suc-add}
 use native.Mathlib.Omega.{arith}
-use lib.ListN.{length, get_or, take, drop, set, length-drop, drop_of_length-le, get_or-eq_default}
-use lib.Seq.{sets, drop-cons, set_out, take_all, take-nil}
-use Rattle.memory.specs.Memory.{word_of, word, word_bytes, store, store_word}
-
--- a turn of the loop that stores s from an offset on
-pub sets_turn : (m s : List ℕ) (at i : ℕ) → i < length s
-    → sets (set m (at + i) (get_or s i 0)) (at + (i + 1)) (drop (i + 1) s) ≡ sets m (at + i) (drop i s)
-sets_turn m s at i h = simp (add-one, add-suc, drop-cons s i 0 h)
+use lib.ListN.{length, get_or, take, drop, set, length-take, length-drop, get_or-eq_default}
+use lib.Seq.{sets, sets-eq, length-sets, set_out}
+use Rattle.std.specs.Prelude.{min}
+use Rattle.std.proofs.Common.{take-append-drop}
+use Rattle.std.proofs.lemmas.List.{append_assoc}
+use borrow.Rule.Slice.PartMut.{put_mid, Post-is}
+use Rattle.std.specs.Int.{w32, to_le_bytes, from_le_bytes}
+use Rattle.memory.specs.Memory.{word, word_bytes, store, store_word}
 
 -- a store that begins past the end
 sets_out : (s m : List ℕ) (at : ℕ) → length m ≤ at → sets m at s ≡ m
 sets_out [] m at h = refl
 sets_out (x ∷ s) m at h = rw (set_out m at x h) (sets_out s m (suc at) (omega arith))
 
--- the end of that loop: no byte is left, or none has room
-sets_end : (m s : List ℕ) (at i n k : ℕ) → length m ≡ k → n ≤ i → (n ≡ length s) ⊎ (n ≡ k - at) → sets m (at + i) (drop i s) ≡ m
-sets_end m s at i n k l h (inl e) = rw (drop_of_length-le s {i = i} (omega arith))
-sets_end m s at i n k l h (inr e) = sets_out (drop i s) m (at + i) (omega arith)
+-- a store of nothing, or past the end
+sets_none : (s m : List ℕ) (at : ℕ) → (0 < length s → length m ≤ at) → sets m at s ≡ m
+sets_none [] m at h = refl
+sets_none (x ∷ s) m at h = sets_out (x ∷ s) m at (h (omega arith))
 
--- what that loop leaves: the bytes of s stand from the offset on
-pub all_stored : (m o s : List ℕ) (at i n : ℕ) → length o ≡ length m → n ≤ i → (n ≡ length s) ⊎ (n ≡ length m - at)
-    → sets o (at + i) (drop i s) ≡ sets m at s → o ≡ store m at s
+pub sets_append : (a b m : List ℕ) (at : ℕ) → sets (sets m at a) (at + length a) b ≡ sets m at (a ++ b)
+sets_append [] b m at = rw add-zero
+sets_append (x ∷ a) b m at = rw (add-suc at (length a), ← suc-add at (length a)) (sets_append a b (set m at x) (suc at))
+
+-- of s only as many bytes are stored as have room
+sets_room : (m s : List ℕ) (at n : ℕ) → n ≡ min (length s) (length m - at) → sets m at (take n s) ≡ sets m at s
+sets_room m s at n e =
+    let l : length (take n s) ≡ n = simp length-take (omega arith) in
+    let none : sets (sets m at (take n s)) (at + length (take n s)) (drop n s) ≡ sets m at (take n s) =
+    sets_none (drop n s) (sets m at (take n s)) (at + length (take n s))
+    (λ h. omega (arith, length-sets m at (take n s), length-drop n s)) in
+    sym none ∙ sets_append (take n s) (drop n s) m at ∙ ap (λ (l : List ℕ). sets m at l) (take-append-drop n s)
+
+-- these bytes moved at once
+pub moved : (m s p : List ℕ) (at n : ℕ) → at ≤ length m → n ≡ min (length s) (length m - at) → p ≡ take n s
+    → put_mid at (at + n - at) m p ≡ store m at s
 unfolding store
-all_stored m o s at i n l h w e = sym (sets_end o s at i n (length m) l h w) ∙ e
+moved m s p at n h e i =
+    let l : length (take n s) ≡ n = simp length-take (omega arith) in
+    let q : sets m at (take n s) ≡ take at m ++ take n s ++ drop (at + n) m =
+    sets-eq (take n s) m at (omega arith) ∙ ap (λ (k : ℕ). take at m ++ take n s ++ drop (at + k) m) l in
+    rw (i, Post-is at (at + n) m (omega arith)) (sym (append_assoc (take at m) (take n s) (drop (at + n) m)) ∙ sym q ∙ sets_room m s at n e)
 
 pub store_out : (m : List ℕ) (at : ℕ) (s : List ℕ) → length m ≤ at → m ≡ store m at s
 unfolding store
@@ -37,9 +52,9 @@ store_out m at s h = sym (sets_out s m at h)
 
 -- the four bytes of a word, the lowest first
 pub word_read : (m : List ℕ) (at a b c d r : ℕ) → a ≡ get_or m at 0 → b ≡ get_or m (at + 1) 0 → c ≡ get_or m (at + 2) 0 → d ≡ get_or m (at + 3) 0
-    → r ≡ word_of a b c d → r ≡ word m at
+    → r ≡ from_le_bytes w32 (a ∷ b ∷ c ∷ d ∷ []) → r ≡ word m at
 unfolding word
-word_read m at a b c d r ea eb ec ed e = rw (← ea, ← eb, ← ec, ← ed) e
+word_read m at a b c d r ea eb ec ed e = rw (← ea, ← eb, ← ec, ← ed) (omega (arith, e))
 
 -- a word that begins past the end
 pub word_out : (m : List ℕ) (at : ℕ) → length m ≤ at → word m at ≡ 0
@@ -52,20 +67,18 @@ word_out m at h =
       get_or-eq_default m 0 {n = at + 3} (omega arith),
     )
 
--- a word is stored byte by byte, the lowest first
-pub word_stored : (m m₁ m₂ m₃ m₄ : List ℕ) (at v : ℕ) → m₁ ≡ set m at (v % 256) → m₂ ≡ set m₁ (at + 1) (v / 256 % 256)
-    → m₃ ≡ set m₂ (at + 2) (v / 256 / 256 % 256) → m₄ ≡ set m₃ (at + 3) (v / 256 / 256 / 256 % 256) → m₄ ≡ store_word m at v
-unfolding store word_bytes
-word_stored m m₁ m₂ m₃ m₄ at v e₁ e₂ e₃ e₄ = rw (e₄, e₃, e₂, e₁, add-one, add-two, add-three)
+-- the bytes of a word, as std has them
+word_bytes_is : (v : ℕ) → to_le_bytes w32 v ≡ word_bytes v
+unfolding word_bytes
+word_bytes_is v =
+    let two : v / 256 ^ 2 ≡ v / 256 / 256 = omega arith in
+    let three : v / 256 ^ 3 ≡ v / 256 / 256 / 256 = omega arith in
+    rw (two, three)
 
--- a part that lies within, one that begins past the end, and one that runs past it
-pub part_whole : (m : List ℕ) (at n : ℕ) → take (at + n - at) (drop at m) ≡ take n (drop at m)
-part_whole m at n = rw (add-sub_cancel_left at n)
+pub word_stored : (m o b : List ℕ) (at v : ℕ) → b ≡ to_le_bytes w32 v → o ≡ store m at b → o ≡ store_word m at v
+word_stored m o b at v e h = h ∙ ap (λ (l : List ℕ). store m at l) (e ∙ word_bytes_is v)
 
-pub part_none : (m : List ℕ) (at n : ℕ) → length m ≤ at → [] ≡ take n (drop at m)
-part_none m at n h = rw (drop_of_length-le m h, take-nil n)
-
-pub part_rest : (m : List ℕ) (at n : ℕ) → length m - at < n → take (length m - at) (drop at m) ≡ take n (drop at m)
-part_rest m at n h =
-    take_all (length m - at) (drop at m) (omega (arith, length-drop at m))
-    ∙ sym (take_all n (drop at m) (omega (arith, length-drop at m)))
+-- the four at once
+pub word_moved : (m p : List ℕ) (at v : ℕ) → at + 4 ≤ length m → p ≡ to_le_bytes w32 v → put_mid at (at + 4 - at) m p ≡ store_word m at v
+word_moved m p at v h e =
+    moved m (to_le_bytes w32 v) p at 4 (omega arith) (omega arith) e ∙ ap (λ (l : List ℕ). store m at l) (word_bytes_is v)

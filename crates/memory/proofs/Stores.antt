@@ -7,6 +7,7 @@ use native.Mathlib.Omega.{arith}
 use native.Mathlib.Nat.{add-zero, add-suc, suc-add, not-suc-le-zero}
 use lib.ListN.{length, get_or, take, drop, set, length-set, length-take, length-drop}
 use lib.Seq.{sets, length-sets, get_or-set_other, get_or-set_same, ext_get_or, get_or-take, get_or-drop}
+use Rattle.memory.proofs.Laws.{sets_append}
 use Rattle.memory.specs.Memory.{word, word_bytes, store, store_word}
 
 -- n bytes from a on and k bytes from b on share none
@@ -68,10 +69,6 @@ module _ (m : List ℕ) (at : ℕ) (s : List ℕ) where
       ext_get_or 0 (take (length s) (drop at (store m at s))) s same
       (λ k l.
       rw (get_or-take (length s) (drop at (store m at s)) k 0 (omega arith), get_or-drop at (store m at s) k 0) (byte_back k (omega arith) fits))
-
-sets_append : (a b m : List ℕ) (at : ℕ) → sets (sets m at a) (at + length a) b ≡ sets m at (a ++ b)
-sets_append [] b m at = rw add-zero
-sets_append (x ∷ a) b m at = rw (add-suc at (length a), ← suc-add at (length a)) (sets_append a b (set m at x) (suc at))
 
 -- a store right behind another
 pub store_append : (m : List ℕ) (at next : ℕ) (a b : List ℕ) → next ≡ at + length a → store (store m at a) next b ≡ store m at (a ++ b)

@@ -9,19 +9,18 @@ mod verifying;
 
 ghost use Rattle.std.specs.Prelude.{◌≤◌};
 
+use placing::Lacking;
 use std::rt::Files;
-use temporary::{NAME, named, written};
+use temporary::{Name, written};
 
 // Makes a file: 0 where it is made, 1 where it cannot be. It is written before it is put in its place.
 pub fn make<R: Files>(rt: &R, path: &[u8], bytes: &[u8]) -> u32
     ensures { result ≤ 1 }
 {
-    let mut name = [0u8; NAME];
-    let n = written(rt, path, path, bytes, &mut name);
-    if n == 0 {
+    let Some(name) = written(rt, path, path, bytes) else {
         return 1;
-    }
-    placing::place_one(rt, named(&name, n), path)
+    };
+    u32::from(placing::place(rt, &name, path).is_err())
 }
 
 // Makes two files, or none: 0 where both are made, 1 where the first cannot be, 2 where the second cannot be. Both are
@@ -29,36 +28,27 @@ pub fn make<R: Files>(rt: &R, path: &[u8], bytes: &[u8]) -> u32
 pub fn make_both<R: Files>(rt: &R, first: &[u8], a: &[u8], second: &[u8], b: &[u8]) -> u32
     ensures { result ≤ 2 }
 {
-    let mut one = [0u8; NAME];
-    let n = written(rt, first, second, a, &mut one);
-    if n == 0 {
-        return 1;
+    match both(rt, first, a, second, b) {
+        Ok(()) => 0,
+        Err(Lacking::First) => 1,
+        Err(Lacking::Second) => 2,
     }
-    let mut two = [0u8; NAME];
-    let k = second_written(rt, first, second, b, &mut two);
-    let mut kept = [0u8; NAME];
-    let j = written(rt, first, second, b"", &mut kept);
-    placing::place_both(
-        rt,
-        named(&one, n),
-        first,
-        a,
-        named(&kept, j),
-        named(&two, k),
-        second,
-    )
 }
 
-// The second of two files under a temporary name, and that name's length; 0 where it cannot be made.
-fn second_written<R: Files>(
-    rt: &R,
-    first: &[u8],
-    second: &[u8],
-    b: &[u8],
-    name: &mut [u8; NAME],
-) -> usize {
+// The same, by name.
+fn both<R: Files>(rt: &R, first: &[u8], a: &[u8], second: &[u8], b: &[u8]) -> Result<(), Lacking> {
+    let Some(one) = written(rt, first, second, a) else {
+        return Err(Lacking::First);
+    };
+    let two = second_written(rt, first, second, b);
+    let kept = written(rt, first, second, b"");
+    placing::place_both(rt, &one, first, a, kept, two, second)
+}
+
+// The second of two files under a temporary name, where it can be made.
+fn second_written<R: Files>(rt: &R, first: &[u8], second: &[u8], b: &[u8]) -> Option<Name> {
     if first == second {
-        return 0;
+        return None;
     }
-    written(rt, second, first, b, name)
+    written(rt, second, first, b)
 }

@@ -1,33 +1,36 @@
-// Files that were written under temporary names, put in their places. An empty name is that of a file that could not be
-// written: the system finds no file under it.
-ghost use Rattle.std.specs.Prelude.{◌≤◌};
-
+// Files that were written under temporary names, put in their places.
 use crate::system;
+use crate::temporary::Name;
 use crate::verifying::holds;
+use std::io;
 use std::io::ErrorKind;
 use std::rt::Files;
 
-// Puts a file in its place, or removes it where it cannot stand there.
-fn place<R: Files>(rt: &R, from: &[u8], path: &[u8]) -> bool {
-    if system::rename(rt, from, path).is_ok() {
-        return true;
-    }
-    system::unlink(rt, from);
-    false
+// Which of two files cannot be made.
+#[derive(Clone, Copy, Debug, PartialEq, Eq)]
+pub(crate) enum Lacking {
+    First,
+    Second,
 }
 
-// The same as a number: 0 where it stands there, 1 where it cannot.
-pub(crate) fn place_one<R: Files>(rt: &R, from: &[u8], path: &[u8]) -> u32
-    ensures { result ≤ 1 }
-{
-    if place(rt, from, path) {
-        return 0;
+// Removes a temporary file, where there is one.
+fn remove<R: Files>(rt: &R, name: Option<Name>) {
+    if let Some(name) = name {
+        system::unlink(rt, name.bytes());
     }
-    1
+}
+
+// Puts a file in its place, or removes it where it cannot stand there.
+pub(crate) fn place<R: Files>(rt: &R, name: &Name, path: &[u8]) -> io::Result<()> {
+    let placed = system::rename(rt, name.bytes(), path);
+    if placed.is_err() {
+        system::unlink(rt, name.bytes());
+    }
+    placed
 }
 
 // What was in a file's place: nothing, a file that was set aside, or something that cannot be set aside, as a folder.
-#[derive(Clone, Copy)]
+#[derive(Clone, Copy, PartialEq, Eq)]
 enum Before {
     Nothing,
     File,
@@ -35,98 +38,84 @@ enum Before {
 }
 
 // Sets aside what is in a file's place, under the name of an empty file of our own: so nothing else is written over, and a
-// folder is not moved. Without that file there is no name to keep it under.
-fn set_aside<R: Files>(rt: &R, path: &[u8], kept: &[u8]) -> Before {
-    if kept.len() == 0 {
-        return Before::Other;
-    }
-    match system::rename(rt, path, kept) {
+// folder is not moved.
+fn set_aside<R: Files>(rt: &R, path: &[u8], kept: &Name) -> Before {
+    match system::rename(rt, path, kept.bytes()) {
         Ok(()) => Before::File,
         Err(e) => {
             if e.kind() == ErrorKind::NotFound {
-                return Before::Nothing;
+                Before::Nothing
+            } else {
+                Before::Other
             }
-            Before::Other
         }
     }
 }
 
 // Puts back what was set aside, where the new file could not be put in its place.
-fn put_back<R: Files>(rt: &R, before: Before, kept: &[u8], path: &[u8]) {
+fn put_back<R: Files>(rt: &R, before: Before, kept: &Name, path: &[u8]) {
     match before {
         Before::File => {
-            let _ = system::rename(rt, kept, path);
+            let _ = system::rename(rt, kept.bytes(), path);
         }
-        Before::Nothing => {
-            system::unlink(rt, kept);
-        }
-        Before::Other => {
-            system::unlink(rt, kept);
+        _ => {
+            system::unlink(rt, kept.bytes());
         }
     }
 }
 
 // The same where it could.
-fn take_back<R: Files>(rt: &R, before: Before, kept: &[u8], path: &[u8]) {
-    match before {
-        Before::File => {
-            let _ = system::rename(rt, kept, path);
-        }
-        Before::Nothing => {
-            system::unlink(rt, path);
-            system::unlink(rt, kept);
-        }
-        Before::Other => {
-            system::unlink(rt, kept);
-        }
+fn take_back<R: Files>(rt: &R, before: Before, kept: &Name, path: &[u8]) {
+    if before == Before::Nothing {
+        system::unlink(rt, path);
+    }
+    put_back(rt, before, kept, path);
+}
+
+// Puts the first file in its place, where a file may be put there, or removes it.
+fn place_first<R: Files>(rt: &R, before: Before, one: &Name, first: &[u8]) -> bool {
+    if before == Before::Other {
+        system::unlink(rt, one.bytes());
+        return false;
+    }
+    place(rt, one, first).is_ok()
+}
+
+// Puts the second file in its place, where there is one.
+fn place_second<R: Files>(rt: &R, two: Option<Name>, second: &[u8]) -> bool {
+    match two {
+        Some(two) => place(rt, &two, second).is_ok(),
+        None => false,
     }
 }
 
-// Whether a file may be put where this was.
-fn is_free(before: Before) -> bool {
-    match before {
-        Before::File => true,
-        Before::Nothing => true,
-        Before::Other => false,
-    }
-}
-
-// Puts the first file in its place, or removes it.
-fn place_first<R: Files>(rt: &R, before: Before, one: &[u8], first: &[u8]) -> bool {
-    if is_free(before) {
-        return place(rt, one, first);
-    }
-    system::unlink(rt, one);
-    false
-}
-
-// Puts both files in their places, the first with what was there set aside until the second is in its place too. Where both
-// names are of one file the second has taken the first's place: then what was there is put back.
+// Puts both files in their places, the first with what was there set aside until the second is in its place too. Without an
+// empty file there is no name to keep it under. Where both names are of one file the second has taken the first's place: then
+// what was there is put back.
 pub(crate) fn place_both<R: Files>(
     rt: &R,
-    one: &[u8],
+    one: &Name,
     first: &[u8],
     a: &[u8],
-    kept: &[u8],
-    two: &[u8],
+    kept: Option<Name>,
+    two: Option<Name>,
     second: &[u8],
-) -> u32
-    ensures { result ≤ 2 }
-{
-    let before = set_aside(rt, first, kept);
+) -> Result<(), Lacking> {
+    let Some(kept) = kept else {
+        system::unlink(rt, one.bytes());
+        remove(rt, two);
+        return Err(Lacking::First);
+    };
+    let before = set_aside(rt, first, &kept);
     if !place_first(rt, before, one, first) {
-        put_back(rt, before, kept, first);
-        system::unlink(rt, two);
-        return 1;
+        put_back(rt, before, &kept, first);
+        remove(rt, two);
+        return Err(Lacking::First);
     }
-    if !place(rt, two, second) {
-        take_back(rt, before, kept, first);
-        return 2;
+    if !place_second(rt, two, second) || !holds(rt, first, a) {
+        take_back(rt, before, &kept, first);
+        return Err(Lacking::Second);
     }
-    if !holds(rt, first, a) {
-        take_back(rt, before, kept, first);
-        return 2;
-    }
-    system::unlink(rt, kept);
-    0
+    system::unlink(rt, kept.bytes());
+    Ok(())
 }

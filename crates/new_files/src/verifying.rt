@@ -12,30 +12,22 @@ const CHUNK: usize = 4096;
 fn filled<F: Read>(file: &mut F, chunk: &mut [u8; CHUNK]) -> usize
     ensures { result ≤ 4096 }
 {
-    match file.read(chunk) {
-        Ok(n) => n,
-        Err(_) => 0,
-    }
-}
-
-// Whether the first n bytes of a chunk, which were read from the file, are those of `bytes` from an index on.
-fn same(chunk: &[u8; CHUNK], n: usize, bytes: &[u8], at: usize) -> bool {
-    memory::part(chunk, 0, n) == memory::part(bytes, at, n)
+    file.read(chunk).unwrap_or(0)
 }
 
 // Whether an open file has these bytes and no more: behind them a read gives none.
 fn has<F: Read>(file: &mut F, bytes: &[u8]) -> bool {
     let mut chunk = [0u8; CHUNK];
-    let mut at = 0;
-    while at < bytes.len() {
+    let mut left = bytes;
+    while !left.is_empty() {
         let n = filled(file, &mut chunk);
         if n == 0 {
             return false;
         }
-        if !same(&chunk, n, bytes, at) {
+        let Some(rest) = left.strip_prefix(&chunk[..n]) else {
             return false;
-        }
-        at += n;
+        };
+        left = rest;
     }
     filled(file, &mut chunk) == 0
 }

@@ -7,12 +7,6 @@ ghost use Rattle.memory.specs.Memory.{store};
 pub fn put(list: &mut [u64], numbers: &[u64])
     ensures { list.new ≡ store list.old 0 numbers.now }
 {
-    let mut i = 0;
-    while i < numbers.len() {
-        if list.len() <= i {
-            return;
-        }
-        list[i] = numbers[i];
-        i += 1;
-    }
+    let n = numbers.len().min(list.len());
+    list[..n].copy_from_slice(&numbers[..n]);
 }

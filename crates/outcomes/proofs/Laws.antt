@@ -1,7 +1,9 @@
 -- What each function leaves, as laws of its definition. Assumes nothing.
 use mathlib.Core.Path.{◌≡◌}
 use mathlib.Core.Bool.{Bool, true, false}
+use mathlib.Core.Logic.{◌⊎◌, inl, inr}
 use Prim.Native.Nat.{ℕ}
+use native.Mathlib.Omega.{arith}
 use borrow.Author.Tests.{eq-eqb, ne_eqb}
 use Rattle.engine.specs.declared.Engine.{Engine}
 use Rattle.engine.specs.Engine.{stopped, led_to, not_granted}
@@ -16,33 +18,30 @@ module _ (n : ℕ) (r : Registers) where
   unfolding rx_refused
   rx_fault_stops z e q = rw (eq-eqb n 7 z, q)
 
-  pub rx_not_granted_lem : (n ≡ 7 → ⊥) → n ≡ 8 → (e : Engine) → e ≡ not_granted r.rx → with_rx (raised r packet_lost) e ≡ rx_refused n r
+  pub rx_not_granted_lem : n ≡ 8 → (e : Engine) → e ≡ not_granted r.rx → with_rx (raised r packet_lost) e ≡ rx_refused n r
   unfolding rx_refused
-  rx_not_granted_lem a z e q = rw (ne_eqb n 7 a, eq-eqb n 8 z, q)
+  rx_not_granted_lem z e q = rw (ne_eqb n 7 (λ s. omega arith), eq-eqb n 8 z, q)
 
   pub rx_others_keep : (n ≡ 7 → ⊥) → (n ≡ 8 → ⊥) → r ≡ rx_refused n r
   unfolding rx_refused
   rx_others_keep a b = rw (ne_eqb n 7 a, ne_eqb n 8 b)
 
-  pub tx_fault_stops : n ≡ 7 → (e : Engine) → e ≡ stopped r.tx → with_tx r e ≡ tx_refused n r
+  pub tx_stops : (n ≡ 7) ⊎ (n ≡ 12) → (e : Engine) → e ≡ stopped r.tx → with_tx r e ≡ tx_refused n r
   unfolding tx_refused
-  tx_fault_stops z e q = rw (eq-eqb n 7 z, q)
+  tx_stops (inl z) e q = rw (eq-eqb n 7 z, q)
+  tx_stops (inr z) e q = rw (ne_eqb n 7 (λ s. omega arith), ne_eqb n 8 (λ s. omega arith), eq-eqb n 12 z, q)
 
-  pub tx_not_granted_lem : (n ≡ 7 → ⊥) → n ≡ 8 → (e : Engine) → e ≡ not_granted r.tx → with_tx r e ≡ tx_refused n r
+  pub tx_not_granted_lem : n ≡ 8 → (e : Engine) → e ≡ not_granted r.tx → with_tx r e ≡ tx_refused n r
   unfolding tx_refused
-  tx_not_granted_lem a z e q = rw (ne_eqb n 7 a, eq-eqb n 8 z, q)
+  tx_not_granted_lem z e q = rw (ne_eqb n 7 (λ s. omega arith), eq-eqb n 8 z, q)
 
-  pub tx_length_stops : (n ≡ 7 → ⊥) → (n ≡ 8 → ⊥) → n ≡ 12 → (e : Engine) → e ≡ stopped r.tx → with_tx r e ≡ tx_refused n r
+  pub tx_others_keep : ((n ≡ 7) ⊎ (n ≡ 12) → ⊥) → (n ≡ 8 → ⊥) → r ≡ tx_refused n r
   unfolding tx_refused
-  tx_length_stops a b z e q = rw (ne_eqb n 7 a, ne_eqb n 8 b, eq-eqb n 12 z, q)
-
-  pub tx_others_keep : (n ≡ 7 → ⊥) → (n ≡ 8 → ⊥) → (n ≡ 12 → ⊥) → r ≡ tx_refused n r
-  unfolding tx_refused
-  tx_others_keep a b c = rw (ne_eqb n 7 a, ne_eqb n 8 b, ne_eqb n 12 c)
+  tx_others_keep a b = rw (ne_eqb n 7 (λ z. a (inl z)), ne_eqb n 8 b, ne_eqb n 12 (λ z. a (inr z)))
 
 pub ruleset rx_refused_ways = (rx_fault_stops, rx_not_granted_lem, rx_others_keep)
 
-pub ruleset tx_refused_ways = (tx_fault_stops, tx_not_granted_lem, tx_length_stops, tx_others_keep)
+pub ruleset tx_refused_ways = (tx_stops, tx_not_granted_lem, tx_others_keep)
 
 -- ---- a delivery, and a send
 

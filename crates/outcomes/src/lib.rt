@@ -7,81 +7,56 @@ ghost use Rattle.outcomes.specs.Outcomes.{rx_refused, rx_advanced, tx_refused, t
 use registers::Registers;
 
 // After a frame that was refused by a number.
-pub fn rx_refused(r: Registers, number: u32) -> Registers
+pub fn rx_refused(mut r: Registers, number: u32) -> Registers
     ensures { result ≡ rx_refused number r }
 {
-    let mut next = r;
-    let rx = r.rx;
-    if number == answer::CHAIN_FAULT {
-        let still = rx.stopped();
-        next.rx = still;
-        return next;
+    match number {
+        answer::CHAIN_FAULT => r.rx = r.rx.stopped(),
+        answer::NOT_GRANTED => {
+            r.isr |= Registers::PACKET_LOST;
+            r.rx = r.rx.not_granted();
+        }
+        _ => {}
     }
-    if number == answer::NOT_GRANTED {
-        let after = rx.not_granted();
-        next.isr = r.isr | Registers::PACKET_LOST;
-        next.rx = after;
-        return next;
-    }
-    next
+    r
 }
 
 // After a delivery: the engine moves on where next-enable is set, and else stops.
-pub fn rx_advanced(r: Registers, linked: bool, word: u32) -> Registers
+pub fn rx_advanced(mut r: Registers, linked: bool, word: u32) -> Registers
     ensures { result ≡ rx_advanced r linked word }
 {
-    let mut next = r;
-    let rx = r.rx;
+    r.isr |= Registers::RX_CURR_DONE;
     if linked {
-        let moved = rx.led_to(word);
-        next.isr = r.isr | Registers::RX_CURR_DONE;
-        next.rx = moved;
-        return next;
+        r.rx = r.rx.led_to(word);
+    } else {
+        r.isr |= Registers::RX_DONE;
+        r.rx = r.rx.stopped();
     }
-    let still = rx.stopped();
-    next.isr = r.isr | Registers::RX_CURR_DONE | Registers::RX_DONE;
-    next.rx = still;
-    next
+    r
 }
 
 // After a send that was refused by a number.
-pub fn tx_refused(r: Registers, number: u32) -> Registers
+pub fn tx_refused(mut r: Registers, number: u32) -> Registers
     ensures { result ≡ tx_refused number r }
 {
-    let mut next = r;
-    let tx = r.tx;
-    if number == answer::CHAIN_FAULT {
-        let still = tx.stopped();
-        next.tx = still;
-        return next;
+    match number {
+        answer::CHAIN_FAULT | answer::SEND_LENGTH => r.tx = r.tx.stopped(),
+        answer::NOT_GRANTED => r.tx = r.tx.not_granted(),
+        _ => {}
     }
-    if number == answer::NOT_GRANTED {
-        let after = tx.not_granted();
-        next.tx = after;
-        return next;
-    }
-    if number == answer::SEND_LENGTH {
-        let still = tx.stopped();
-        next.tx = still;
-        return next;
-    }
-    next
+    r
 }
 
 // After a send: the engine moves on where next-enable is set, and else stops.
-pub fn tx_advanced(r: Registers, linked: bool, word: u32) -> Registers
+pub fn tx_advanced(mut r: Registers, linked: bool, word: u32) -> Registers
     ensures { result ≡ tx_advanced r linked word }
 {
-    let mut next = r;
-    let tx = r.tx;
+    r.isr |= Registers::TX_CURR_DONE;
     if linked {
-        let moved = tx.led_to(word);
-        next.isr = r.isr | Registers::TX_CURR_DONE;
-        next.tx = moved;
-        return next;
+        r.tx = r.tx.led_to(word);
+    } else {
+        r.isr |= Registers::TX_DONE;
+        r.tx = r.tx.stopped();
     }
-    let still = tx.stopped();
-    next.isr = r.isr | Registers::TX_CURR_DONE | Registers::TX_DONE;
-    next.tx = still;
-    next
+    r
 }

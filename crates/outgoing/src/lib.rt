@@ -1,26 +1,19 @@
 // The calls of the device that send from the memory that it is lent. Each writes its line.
 #![tactic(auto)]
 
-ghost use Rattle.std.specs.Prelude.{◌≡◌, length};
+ghost use Rattle.std.specs.Prelude.{◌≡◌};
 ghost use Rattle.commands.specs.Answers.{given, tells};
-ghost use Rattle.commands.specs.Commands.{zeros, output, send, run};
+ghost use Rattle.commands.specs.Commands.{output, send, run};
 
 use commands::{Console, Told};
 
 // The length of the largest output.
 const LARGEST: usize = 65536;
 
-// The largest output, all zero.
-fn largest() -> [u8; LARGEST]
-    ensures { (result ≡ zeros 65_536) × (65_536 ≡ length result) }
-{
-    [0; LARGEST]
-}
-
 pub fn send(console: Console, room: u32, memory: &mut [u8], text: &mut [u8], at: usize) -> Told
     ensures { given result memory.new text.new ≡ tells (send console memory.old (output room)) text.old at }
 {
-    let mut all = largest();
+    let mut all = [0; LARGEST];
     let k = commands::within(room as usize, LARGEST);
     let n = commands::within(console.lent, memory.len());
     let out = &mut all[..k];
@@ -39,7 +32,7 @@ pub fn run(
 ) -> Told
     ensures { given result memory.new text.new ≡ tells (run console memory.old allowance (output room)) text.old at }
 {
-    let mut all = largest();
+    let mut all = [0; LARGEST];
     let k = commands::within(room as usize, LARGEST);
     let n = commands::within(console.lent, memory.len());
     let out = &mut all[..k];

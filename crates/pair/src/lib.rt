@@ -17,18 +17,19 @@ pub struct Pair {
 }
 
 // A single receive of the pair's bytes, or 16.
+#[tactic(auto, unfolding(crate::specs::Pair::received, crate::specs::Pair::passes, crate::specs::Pair::bytes_of))]
 fn received(device: Enet, memory: &mut [u8], store: &[u8], start: u32, length: u32) -> Answered
     ensures { outcome result memory.new ≡ received device memory.old store.now (pair start length) }
 {
     let at = start as usize;
     let n = length as usize;
-    if store.len() < at + n {
+    let Some(frame) = store.get(at..at + n) else {
         return Answered {
             number: answer::BURST,
             device,
         };
-    }
-    device.receive(memory, memory::part(store, at, n))
+    };
+    device.receive(memory, frame)
 }
 
 // An answer in its place; one past the list's end is left out.
@@ -42,6 +43,7 @@ pub fn put_answer(answers: &mut [u32], i: usize, number: u32)
 
 // The pair at place i of a burst: its answer goes there, and the burst's number stays. It takes and gives both in one value, so
 // that the loops above hand it on and make none of their own.
+#[tactic(auto, unfolding(crate::specs::Turn::turn))]
 pub fn turn(
     last: Answered,
     memory: &mut [u8],
@@ -55,9 +57,8 @@ pub fn turn(
 {
     let next = received(last.device, memory, store, start, length);
     put_answer(answers, i, next.number);
-    let device = next.device;
     Answered {
-        number: last.number,
-        device,
+        device: next.device,
+        ..last
     }
 }

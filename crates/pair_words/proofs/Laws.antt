@@ -10,19 +10,18 @@ use Rattle.std.specs.Prelude.{if◌then◌else◌}
 use Rattle.rules.proofs.Choices.{said_not}
 use Rattle.memory.specs.Memory.{store}
 use Rattle.words.specs.Words.{spaced, first, rest}
-use Rattle.forms.specs.declared.numbers.Number.{Number}
-use Rattle.forms.specs.declared.numbers.Number.TheVariants.{Is, Wrong}
+use Rattle.std.specs.Prelude.{Option, Some, None, unwrap_or}
 use Rattle.forms.specs.Numbers.{decimal}
 use Rattle.forms.specs.Pairs.{byte_count}
-use Rattle.pair_words.specs.PairWords.{right, value, first_number, pairs_from, pairs_behind, every_other}
+use Rattle.pair_words.specs.PairWords.{first_number, pairs_from, pairs_behind, every_other}
 
-pub first_number_is : (s w : List ℕ) (x : Number) → w ≡ first s → x ≡ decimal w 99_999_999 → x ≡ first_number s
+pub first_number_is : (s w : List ℕ) (x : Option ℕ) → w ≡ first s → x ≡ decimal w 99_999_999 → x ≡ first_number s
 unfolding first_number
 first_number_is s w x e h = rw (← e) h
 
 -- ---- the pairs that are left
 
-pub pairs_none : (left n : ℕ) (s : List ℕ) → left ≡ 0 → Wrong ≡ pairs_from left n s
+pub pairs_none : (left n : ℕ) (s : List ℕ) → left ≡ 0 → None ≡ pairs_from left n s
 unfolding pairs_from
 pairs_none left n s z = rw z
 
@@ -30,43 +29,43 @@ one_less : (n : ℕ) → (n ≡ 0 → ⊥) → n ≡ suc (n - 1)
 one_less n z = omega arith
 
 -- with the START's number in hand, then the LENGTH's, and whether more follows
-module _ (left n : ℕ) (s : List ℕ) (z : left ≡ 0 → ⊥) (x : Number) (e : x ≡ first_number s) (r : Bool) (is : r ≡ right x) where
-  pub pairs_start : not r ≡ true → Wrong ≡ pairs_from left n s
+module _ (left n : ℕ) (s : List ℕ) (z : left ≡ 0 → ⊥) (x : Option ℕ) (e : x ≡ first_number s) where
+  pub pairs_start : (r : Option ℕ) → x ≡ None → r ≡ None → r ≡ pairs_from left n s
   unfolding pairs_from
-  pairs_start t = rw (one_less left z, ← e, said_not (right x) r true is t)
+  pairs_start r t h = rw (one_less left z, ← e, t) h
 
-  module _ (t : not r ≡ false) (s₂ : List ℕ) (cut : s₂ ≡ rest s) (x₂ : Number) (e₂ : x₂ ≡ first_number s₂) (r₂ : Bool) (is₂ : r₂ ≡ right x₂) where
-    pub pairs_length : not r₂ ≡ true → Wrong ≡ pairs_from left n s
+  module _ (v : ℕ) (t : x ≡ Some v) (s₂ : List ℕ) (cut : s₂ ≡ rest s) (x₂ : Option ℕ) (e₂ : x₂ ≡ first_number s₂) where
+    pub pairs_length : (r : Option ℕ) → x₂ ≡ None → r ≡ None → r ≡ pairs_from left n s
     unfolding pairs_from
-    pairs_length t₂ = rw (one_less left z, ← e, said_not (right x) r false is t, ← cut, ← e₂, said_not (right x₂) r₂ true is₂ t₂)
+    pairs_length r t₂ h = rw (one_less left z, ← e, t, ← cut, ← e₂, t₂) h
 
-    module _ (t₂ : not r₂ ≡ false) (q : Bool) (is₃ : q ≡ spaced s₂) where
+    module _ (v₂ : ℕ) (t₂ : x₂ ≡ Some v₂) (q : Bool) (is₃ : q ≡ spaced s₂) where
       -- both are right
-      a_pair : (y : Number) → y ≡ (if not (spaced s₂) then Is (n + 1) else pairs_from (left - 1) (n + 1) (rest s₂)) → y ≡ pairs_from left n s
+      a_pair : (y : Option ℕ) → y ≡ (if not (spaced s₂) then Some (n + 1) else pairs_from (left - 1) (n + 1) (rest s₂)) → y ≡ pairs_from left n s
       unfolding pairs_from
-      a_pair y h = rw (one_less left z, ← e, said_not (right x) r false is t, ← cut, ← e₂, said_not (right x₂) r₂ false is₂ t₂) h
+      a_pair y h = rw (one_less left z, ← e, t, ← cut, ← e₂, t₂) h
 
-      pub pairs_last : not q ≡ true → Is (n + 1) ≡ pairs_from left n s
-      pairs_last t₃ = a_pair (Is (n + 1)) (rw (said_not (spaced s₂) q true is₃ t₃))
+      pub pairs_last : not q ≡ true → Some (n + 1) ≡ pairs_from left n s
+      pairs_last t₃ = a_pair (Some (n + 1)) (rw (said_not (spaced s₂) q true is₃ t₃))
 
-      pub pairs_more : (s₃ : List ℕ) (y : Number) → not q ≡ false → s₃ ≡ rest s₂ → y ≡ pairs_from (left - 1) (n + 1) s₃ → y ≡ pairs_from left n s
+      pub pairs_more : (s₃ : List ℕ) (y : Option ℕ) → not q ≡ false → s₃ ≡ rest s₂ → y ≡ pairs_from (left - 1) (n + 1) s₃ → y ≡ pairs_from left n s
       pairs_more s₃ y t₃ cut₂ h = a_pair y (rw (said_not (spaced s₂) q false is₃ t₃, ← cut₂) h)
 
 -- ---- the pairs behind BYTES
 
-module _ (s w : List ℕ) (cut : w ≡ first s) (x : Number) (e : x ≡ byte_count w) (r : Bool) (is : r ≡ right x) where
-  pub behind_wrong : not r ≡ true → Wrong ≡ pairs_behind s
+module _ (s w : List ℕ) (cut : w ≡ first s) (x : Option ℕ) (e : x ≡ byte_count w) where
+  pub behind_wrong : (r : Option ℕ) → x ≡ None → r ≡ None → r ≡ pairs_behind s
   unfolding pairs_behind
-  behind_wrong t = rw (← cut, ← e, said_not (right x) r true is t)
+  behind_wrong r t h = rw (← cut, ← e, t) h
 
-  module _ (t : not r ≡ false) (q : Bool) (is₂ : q ≡ spaced s) where
-    pub behind_none : not q ≡ true → Is 0 ≡ pairs_behind s
+  module _ (v : ℕ) (t : x ≡ Some v) (q : Bool) (is : q ≡ spaced s) where
+    pub behind_none : not q ≡ true → Some 0 ≡ pairs_behind s
     unfolding pairs_behind
-    behind_none t₂ = rw (← cut, ← e, said_not (right x) r false is t, said_not (spaced s) q true is₂ t₂)
+    behind_none t₂ = rw (← cut, ← e, t, said_not (spaced s) q true is t₂)
 
-    pub behind_some : (s₂ : List ℕ) (y : Number) → not q ≡ false → s₂ ≡ rest s → y ≡ pairs_from 66 0 s₂ → y ≡ pairs_behind s
+    pub behind_some : (s₂ : List ℕ) (y : Option ℕ) → not q ≡ false → s₂ ≡ rest s → y ≡ pairs_from 66 0 s₂ → y ≡ pairs_behind s
     unfolding pairs_behind
-    behind_some s₂ y t₂ cut₂ h = rw (← cut, ← e, said_not (right x) r false is t, said_not (spaced s) q false is₂ t₂, ← cut₂) h
+    behind_some s₂ y t₂ cut₂ h = rw (← cut, ← e, t, said_not (spaced s) q false is t₂, ← cut₂) h
 
 -- ---- every other number
 
@@ -74,7 +73,7 @@ pub numbers_none : (out s : List ℕ) (n at : ℕ) → n ≡ 0 → out ≡ store
 unfolding store every_other
 numbers_none out s n at z = rw z
 
-pub numbers_more : (out out' s s₂ s₃ : List ℕ) (n at v : ℕ) (x : Number) → (n ≡ 0 → ⊥) → x ≡ first_number s → v ≡ value x → s₂ ≡ rest s → s₃ ≡ rest s₂
+pub numbers_more : (out out' s s₂ s₃ : List ℕ) (n at v : ℕ) (x : Option ℕ) → (n ≡ 0 → ⊥) → x ≡ first_number s → v ≡ unwrap_or x 0 → s₂ ≡ rest s → s₃ ≡ rest s₂
     → out' ≡ store (set out at v) (at + 1) (every_other (n - 1) s₃) → out' ≡ store out at (every_other n s)
 unfolding store every_other
 numbers_more out out' s s₂ s₃ n at v x z e f cut cut₂ h = rw (one_less n z, ← e, ← f, ← cut, ← cut₂) (rw add-one at h)

@@ -3,9 +3,9 @@
 
 ghost use Rattle.std.specs.Prelude.{◌≡◌, ◌+◌, ◌≤◌};
 ghost use Rattle.memory.specs.Memory.{store};
-ghost use Rattle.pair_words.specs.PairWords.{right, value, first_number, pairs_from, pairs_behind, every_other};
+ghost use Rattle.pair_words.specs.PairWords.{first_number, pairs_from, pairs_behind, every_other};
 
-use forms::numbers::{Number, decimal};
+use forms::numbers::decimal;
 use forms::pairs::byte_count;
 use words::{first, rest, spaced};
 
@@ -15,62 +15,37 @@ const ANY: u32 = 99_999_999;
 // The most pairs in a line.
 const PAIRS: u32 = 66;
 
-fn right(n: Number) -> bool
-    ensures { result ≡ right n }
-{
-    let Number::Is(_) = n else {
-        return false;
-    };
-    true
-}
-
-// 0 for a wrong one.
-fn value(n: Number) -> u32
-    ensures { result ≡ value n }
-{
-    let Number::Is(x) = n else {
-        return 0;
-    };
-    x
-}
-
 // The first word as a START or a LENGTH.
-fn first_number(s: &[u8]) -> Number
+fn first_number(s: &[u8]) -> Option<u32>
     ensures { result ≡ first_number s.now }
 {
     decimal(first(s), ANY)
 }
 
 // How many pairs there are, where n came before and `left` more may come.
-fn pairs_from(s: &[u8], left: u32, n: u32) -> Number
+fn pairs_from(s: &[u8], left: u32, n: u32) -> Option<u32>
     requires { n + left ≤ 66 }
     ensures { result ≡ pairs_from left n s.now }
 {
     if left == 0 {
-        return Number::Wrong;
+        return None;
     }
-    if !right(first_number(s)) {
-        return Number::Wrong;
-    }
+    first_number(s)?;
     let second = rest(s);
-    if !right(first_number(second)) {
-        return Number::Wrong;
-    }
+    first_number(second)?;
     if !spaced(second) {
-        return Number::Is(n + 1);
+        return Some(n + 1);
     }
     pairs_from(rest(second), left - 1, n + 1)
 }
 
 // How many pairs stand behind BYTES, which have to be right.
-pub fn pairs_behind(words: &[u8]) -> Number
+pub fn pairs_behind(words: &[u8]) -> Option<u32>
     ensures { result ≡ pairs_behind words.now }
 {
-    if !right(byte_count(first(words))) {
-        return Number::Wrong;
-    }
+    byte_count(first(words))?;
     if !spaced(words) {
-        return Number::Is(0);
+        return Some(0);
     }
     pairs_from(rest(words), PAIRS, 0)
 }
@@ -85,6 +60,6 @@ pub fn every_other(s: &[u8], n: usize, out: &mut [u32], at: usize)
     if out.len() <= at {
         return;
     }
-    out[at] = value(first_number(s));
+    out[at] = first_number(s).unwrap_or(0);
     every_other(rest(rest(s)), n - 1, out, at + 1)
 }

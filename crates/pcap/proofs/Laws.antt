@@ -1,9 +1,12 @@
 -- A record as the code puts it, and how long it is. Assumes nothing.
-use Prim.Native.Nat.{ℕ, ◌+◌, ◌-◌, ◌<◌}
+use Prim.Native.Nat.{ℕ, ◌+◌, ◌-◌}
 use mathlib.Core.Path.{◌≡◌, refl, sym, ap, ◌∙◌}
-use mathlib.Core.List.{List}
+use mathlib.Core.List.{List, [], ◌∷◌}
+use Rattle.std.proofs.Common.{slice_index_or, w64}
+use Rattle.std.proofs.Math.Nat.{div-div-eq-div-mul}
+use Rattle.std.specs.Int.{to_le_bytes}
 use native.Mathlib.Omega.{arith}
-use lib.ListN.{length, take, drop, length-append, length-take}
+use lib.ListN.{length, length-append, length-take}
 use Rattle.memory.specs.Memory.{word_bytes, store}
 use Rattle.memory.proofs.Stores.{store_append}
 use Rattle.pcap.specs.Capture.{Captured, header_bytes, message, head_bytes, record_bytes}
@@ -31,16 +34,12 @@ length_record c =
 
 -- ---- as the code puts them
 
--- a frame that has no check sequence has nothing before it
-pub no_message : (frame r : List ℕ) → length frame < 4 → r ≡ take 0 (drop 0 frame) → r ≡ message frame
-unfolding message
-no_message frame r h e =
-    let z : length frame - 4 ≡ 0 = omega arith in
-    e ∙ rw z
-
-pub some_message : (frame r : List ℕ) → r ≡ take (length frame - 4) (drop 0 frame) → r ≡ message frame
-unfolding message
-some_message frame r e = e
+-- the lowest four of a number's eight bytes
+pub low_four : (n : ℕ) (b : List ℕ) → b ≡ to_le_bytes w64 n
+    → (slice_index_or b 0 0 ∷ slice_index_or b 1 0 ∷ slice_index_or b 2 0 ∷ slice_index_or b 3 0 ∷ []) ≡ word_bytes n
+unfolding word_bytes
+low_four n b e =
+    rw (e, div-div-eq-div-mul n 256 256, div-div-eq-div-mul n 65536 256) refl
 
 pub header_put : (m m' h : List ℕ) → h ≡ header_bytes → m' ≡ store m 0 h → m' ≡ store m 0 header_bytes
 header_put m m' h e p = p ∙ rw e

@@ -3,7 +3,7 @@
 #![tactic(auto)]
 
 ghost use Rattle.std.specs.Prelude.{◌≡◌};
-ghost use Rattle.memory.specs.Memory.{store};
+ghost use Rattle.memory.specs.Memory.{word_bytes, store};
 ghost use Rattle.pcap.specs.Capture.{header_bytes, message, head_bytes, record_bytes};
 
 // The bytes of the header.
@@ -22,7 +22,8 @@ pub const VERSION: u32 = 0x0004_0002;
 pub const LINK_TYPE: u32 = 1;
 
 // The header of a file that is made.
-fn header() -> [u8; 24]
+#[tactic(auto, unfolding(crate::specs::Capture::header_bytes, memory::specs::Memory::word_bytes))]
+fn header() -> [u8; HEADER]
     ensures { result ≡ header_bytes }
 {
     [
@@ -31,6 +32,7 @@ fn header() -> [u8; 24]
 }
 
 // Puts it at the front of a room.
+#[tactic(auto, using(crate::proofs::Laws::header_put))]
 pub fn put_header(room: &mut [u8])
     ensures { room.new ≡ store room.old 0 header_bytes }
 {
@@ -38,48 +40,38 @@ pub fn put_header(room: &mut [u8])
 }
 
 // A frame without its check sequence.
+#[tactic(auto, unfolding(crate::specs::Capture::message))]
 fn message(frame: &[u8]) -> &[u8]
     ensures { result.now ≡ message frame.now }
 {
-    if frame.len() < 4 {
-        return memory::part(frame, 0, 0);
-    }
-    memory::part(frame, 0, frame.len() - 4)
+    &frame[..frame.len().saturating_sub(4)]
 }
 
-// The bytes before a frame.
-#[derive(Clone, Copy)]
-pub struct RecordHead {
-    pub bytes: [u8; 16],
-}
-
-// Those of a record of n bytes: its time, and n as the captured length and as the original one. Of a number that is longer than four
-// bytes the lowest four count.
-pub fn head(seconds: usize, microseconds: usize, n: usize) -> RecordHead
-    ensures { result.bytes ≡ head_bytes seconds microseconds n n }
+// The lowest four bytes of a number, the lowest first.
+#[tactic(auto, using(crate::proofs::Laws::low_four))]
+pub fn low_bytes(n: usize) -> [u8; 4]
+    ensures { result ≡ word_bytes n }
 {
-    let bytes = [
-        (seconds % 256) as u8,
-        (seconds / 256 % 256) as u8,
-        (seconds / 256 / 256 % 256) as u8,
-        (seconds / 256 / 256 / 256 % 256) as u8,
-        (microseconds % 256) as u8,
-        (microseconds / 256 % 256) as u8,
-        (microseconds / 256 / 256 % 256) as u8,
-        (microseconds / 256 / 256 / 256 % 256) as u8,
-        (n % 256) as u8,
-        (n / 256 % 256) as u8,
-        (n / 256 / 256 % 256) as u8,
-        (n / 256 / 256 / 256 % 256) as u8,
-        (n % 256) as u8,
-        (n / 256 % 256) as u8,
-        (n / 256 / 256 % 256) as u8,
-        (n / 256 / 256 / 256 % 256) as u8,
-    ];
-    RecordHead { bytes }
+    let [a, b, c, d, ..] = n.to_le_bytes();
+    [a, b, c, d]
+}
+
+// The bytes before the frame of a record of n bytes: its time, and n as the captured length and as the original one. Of a number that is
+// longer than four bytes the lowest four count.
+#[tactic(auto, unfolding(crate::specs::Capture::head_bytes, memory::specs::Memory::word_bytes))]
+pub fn head(seconds: usize, microseconds: usize, n: usize) -> [u8; HEAD]
+    ensures { result ≡ head_bytes seconds microseconds n n }
+{
+    let [s0, s1, s2, s3] = low_bytes(seconds);
+    let [m0, m1, m2, m3] = low_bytes(microseconds);
+    let [n0, n1, n2, n3] = low_bytes(n);
+    [
+        s0, s1, s2, s3, m0, m1, m2, m3, n0, n1, n2, n3, n0, n1, n2, n3,
+    ]
 }
 
 // Puts the record of a frame into a room from a place on. Of a length that is longer than four bytes the lowest four are put.
+#[tactic(auto, using(memory::proofs::Laws::store_out, crate::proofs::Laws::record_put))]
 pub fn put_record(room: &mut [u8], at: usize, seconds: u32, microseconds: u32, frame: &[u8])
     ensures { room.new ≡ store room.old at (record_bytes (record { seconds = seconds; microseconds = microseconds; frame = frame.now })) }
 {
@@ -88,7 +80,6 @@ pub fn put_record(room: &mut [u8], at: usize, seconds: u32, microseconds: u32, f
     }
     let message = message(frame);
     let head = head(seconds as usize, microseconds as usize, message.len());
-    let bytes = head.bytes;
-    memory::store(room, at, &bytes);
+    memory::store(room, at, &head);
     memory::store(room, at + HEAD, message);
 }

@@ -1,3 +1,4 @@
 pub mod Lengths
+pub mod Refused
 pub mod Turns
 pub mod Ways

@@ -1,8 +1,10 @@
 -- 02, Wish 7: "Export takes whole frames, refuses a list not of its form in docs/, answers 4 or 5 for the first wrong one, and refuses
 -- too little room." Each refusal "takes its own next number .. as named, is tested in that order and changes nothing" (Wish 4).
 -- Assumes nothing.
-use Rattle.std.specs.Prelude.{ℕ, not, List, [], ◌∷◌, eqb, ltb, length}
+use Rattle.std.specs.Prelude.{ℕ, not, List, [], ◌∷◌, eqb, ltb, length, Result, Ok, Err}
 use Rattle.std.specs.Prelude.{if◌then◌else◌}
+use Rattle.answer.specs.declared.Refusal.{Refusal}
+use Rattle.answer.specs.Refusals.{refusal_number}
 use Rattle.rules.specs.Choice.{◌otherwise◌}
 use Rattle.memory.specs.Memory.{store}
 use Rattle.fcs.specs.CheckSequence.{check_right}
@@ -31,12 +33,22 @@ export_number list room =
     if ltb room (length (capture_bytes (entries_of list))) then 30 else
     0)
 
--- what export gives: its number, how many bytes and frames the capture has, and the room, with the capture at its front
+-- what export answers: 0, how many bytes the capture has and how many frames; or the number of the refusal and zeros
+pub record Answer : Type 0 where
+  pub number : ℕ
+  pub bytes : ℕ
+  pub frames : ℕ
+
+abbrev pub answer_of : Result Exported Refusal → Answer
+answer_of (Ok e) = record { number = 0; bytes = e.bytes; frames = e.frames }
+answer_of (Err refusal) = record { number = refusal_number refusal; bytes = 0; frames = 0 }
+
+-- what export gives: that, and the room, with the capture at its front
 pub record Exporting : Type 0 where
-  pub exported : Exported
+  pub exported : Answer
   pub room : List ℕ
 
-abbrev pub exporting : Exported → List ℕ → Exporting
+abbrev pub exporting : Answer → List ℕ → Exporting
 exporting e room = record { exported = e; room = room }
 
 unfoldable pub export : List ℕ → List ℕ → Exporting

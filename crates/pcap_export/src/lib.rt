@@ -2,32 +2,35 @@
 // frame that is right and its record have as many bytes, so each record lies a header's length behind where its entry lies in the list.
 #![tactic(auto)]
 
-ghost use Rattle.std.specs.Prelude.{◌+◌, ◌≤◌, ◌≡◌, length};
+ghost use Rattle.std.specs.Prelude.{◌+◌, ◌≤◌, ◌≡◌, length, IfOk};
+ghost use Rattle.answer.specs.Refusals.{number_of};
 ghost use Rattle.memory.specs.Memory.{store};
 ghost use Rattle.pcap.specs.Capture.{record_bytes, records_bytes};
-ghost use Rattle.pcap_list.specs.Entries.{entry_of, entries_of, of_its_form};
-ghost use Rattle.pcap_export.specs.Export.{frame_fault, first_wrong, export_number, exporting, export};
+ghost use Rattle.pcap_list.specs.Entries.{entry_of, entries_of};
+ghost use Rattle.pcap_export.specs.Export.{frame_fault, first_wrong, export_number, answer_of, exporting, export};
 ghost use Rattle.pcap_export.specs.Places.{NoneWrong};
 
-// A capture that was made: 0, how many bytes it has and how many frames; or the number of the refusal and zeros.
+use answer::Refusal;
+use pcap_list::Entries;
+
+// A capture that was made: how many bytes it has and how many frames.
 #[derive(Clone, Copy)]
 pub struct Exported {
-    pub number: u32,
     pub bytes: usize,
     pub frames: usize,
 }
 
-// The first of the refusals 4 and 5 that a frame meets, or 0.
-fn fault(frame: &[u8]) -> u32
-    ensures { result ≡ frame_fault frame.now }
+// The first of the refusals 4 and 5 that a frame meets.
+fn fault(frame: &[u8]) -> Result<(), Refusal>
+    ensures { number_of result ≡ frame_fault frame.now }
 {
     if !frame::length_allowed(frame.len()) {
-        return answer::FRAME_LENGTH;
+        return Err(Refusal::FrameLength);
     }
     if !fcs::check_right(frame) {
-        return answer::FRAME_CHECK;
+        return Err(Refusal::FrameCheck);
     }
-    answer::DONE
+    Ok(())
 }
 
 // The frame of an entry.
@@ -37,42 +40,33 @@ fn frame_of(entry: &[u8]) -> &[u8]
     memory::part(entry, pcap_list::HEAD, entry.len())
 }
 
-// The number of the first frame that is wrong, or 0.
-fn first_wrong(list: &[u8]) -> u32
-    ensures { result ≡ first_wrong (entries_of list.now) }
+// Why the first frame is wrong that is.
+fn first_wrong(list: &[u8]) -> Result<(), Refusal>
+    ensures { number_of result ≡ first_wrong (entries_of list.now) }
 {
-    let mut place = 0;
-    let mut n = pcap_list::size_at(list, 0);
-    while n != 0 {
-        let number = fault(frame_of(memory::part(list, place, n)));
-        if number != 0 {
-            return number;
-        }
-        place += n;
-        n = pcap_list::size_at(list, place);
+    for entry in Entries::new(list) {
+        fault(frame_of(entry))?;
     }
-    answer::DONE
+    Ok(())
 }
 
-// The number of the first refusal that holds, in the order in which they are named, or 0.
-fn number(list: &[u8], whole: bool, room: usize) -> u32
-    requires { whole ≡ of_its_form list.now }
-    ensures { result ≡ export_number list.now room }
+// How many frames the capture will have, or the first refusal that holds, in the order in which they are named.
+fn look(list: &[u8], room: usize) -> Result<usize, Refusal>
+    ensures number { number_of result ≡ export_number list.now room }
+    ensures frames { IfOk result (λ frames. frames ≡ length (entries_of list.now)) }
 {
-    if !whole {
-        return answer::FRAME_LIST;
-    }
-    let number = first_wrong(list);
-    if number != 0 {
-        return number;
-    }
+    let frames = match pcap_list::walk(list) {
+        Ok(frames) => frames,
+        Err(_) => return Err(Refusal::FrameList),
+    };
+    first_wrong(list)?;
     if room < pcap::HEADER {
-        return answer::CAPTURE_ROOM;
+        return Err(Refusal::CaptureRoom);
     }
     if room - pcap::HEADER < list.len() {
-        return answer::CAPTURE_ROOM;
+        return Err(Refusal::CaptureRoom);
     }
-    answer::DONE
+    Ok(frames)
 }
 
 // Puts the record of an entry into the room from a place on.
@@ -90,33 +84,22 @@ fn put_all(list: &[u8], room: &mut [u8])
     requires { NoneWrong list.now × (24 + length list.now ≤ length room.old) }
     ensures { room.new ≡ store room.old 24 (records_bytes (entries_of list.now)) }
 {
-    let mut place = 0;
-    let mut n = pcap_list::size_at(list, 0);
-    while n != 0 {
-        put_entry(memory::part(list, place, n), room, pcap::HEADER + place);
-        place += n;
-        n = pcap_list::size_at(list, place);
+    let mut at = pcap::HEADER;
+    for entry in Entries::new(list) {
+        put_entry(entry, room, at);
+        at += entry.len();
     }
 }
 
 // Exports the frames of a list as a capture at the front of the room.
-pub fn export(list: &[u8], room: &mut [u8]) -> Exported
-    ensures { exporting result room.new ≡ export list.now room.old }
+pub fn export(list: &[u8], room: &mut [u8]) -> Result<Exported, Refusal>
+    ensures { exporting (answer_of result) room.new ≡ export list.now room.old }
 {
-    let listed = pcap_list::walk(list);
-    let number = number(list, listed.whole, room.len());
-    if number != 0 {
-        return Exported {
-            number,
-            bytes: 0,
-            frames: 0,
-        };
-    }
+    let frames = look(list, room.len())?;
     pcap::put_header(room);
     put_all(list, room);
-    Exported {
-        number,
+    Ok(Exported {
         bytes: pcap::HEADER + list.len(),
-        frames: listed.frames,
-    }
+        frames,
+    })
 }

@@ -9,11 +9,13 @@ use Rattle.memory.specs.Memory.{word, word_bytes, store}
 use Rattle.memory.proofs.Stores.{store_append, length_store, length_word_bytes}
 use Rattle.fcs.specs.CheckSequence.{check_number, check_sequence}
 use Rattle.event.specs.Event.{bytes_of, list_of}
-use Rattle.pieces.proofs.Turns.{turn, stop, lies, has}
+use Rattle.pieces.specs.Pieces.{pieces, sizes}
+use Rattle.pieces.proofs.Joined.{all_bytes}
+use Rattle.pieces.proofs.Options.{first_piece}
 use Rattle.pcap.specs.Capture.{Captured}
 use Rattle.pcap_records.specs.Records.{record_size, with_check, captured_of, frames_of}
 use Rattle.pcap_records.proofs.Laws.{fits, least}
-use Rattle.pcap_records.proofs.Walks.{ahead, length_closed}
+use Rattle.pcap_records.proofs.Walks.{length_closed}
 use Rattle.pcap_import.specs.Import.{frame_event, events_of, time_bytes, times_of}
 use Rattle.pcap_import.proofs.Lengths.{length_event_of, length_time}
 
@@ -52,90 +54,70 @@ time_put m m₁ m₂ x at seconds microseconds es eu e₁ e₂ =
     let l : at + 4 ≡ at + length (word_bytes seconds) = ap (λ (k : ℕ). at + k) (sym (length_word_bytes seconds)) in
     e₂ ∙ rw e₁ (store_append m at (at + 4) (word_bytes seconds) (word_bytes microseconds) l ∙ rw (es, eu))
 
--- ---- the loop: at a place of the records, of the events and of the times
+-- ---- the loop: at a place of the events and of the times, with the records that are left
 
-pub record Filling (s e₀ t₀ : List ℕ) (place to time n : ℕ) (events times : List ℕ) : Type 0 where
-  pub here : n ≡ record_size (drop place s)
-  pub inside : place ≤ length s
-  pub few : length s < 2 ^ 64
-  pub before : to ≤ place
-  pub half : 2 * time ≤ place
+-- their frames
+abbrev pub ahead : List ℕ → List Captured
+ahead left = map captured_of (pieces record_size left)
+
+pub record Filling (s e₀ t₀ left : List ℕ) (to time : ℕ) (events times : List ℕ) : Type 0 where
+  pub before : to + sizes (pieces record_size left) ≤ length s
+  pub half : 2 * time + sizes (pieces record_size left) ≤ length s
   pub same_events : length events ≡ length e₀
   pub same_times : length times ≡ length t₀
-  pub fills : store events to (events_of (ahead s place)) ≡ store e₀ 0 (events_of (frames_of s))
-  pub tells : store times time (times_of (ahead s place)) ≡ store t₀ 0 (times_of (frames_of s))
+  pub fills : store events to (events_of (ahead left)) ≡ store e₀ 0 (events_of (frames_of s))
+  pub tells : store times time (times_of (ahead left)) ≡ store t₀ 0 (times_of (frames_of s))
 
-module _ (s e₀ t₀ : List ℕ) where
-  pub filling_begins : (n : ℕ) → length s < 2 ^ 64 → n ≡ record_size (drop 0 s) → Filling s e₀ t₀ 0 0 0 n e₀ t₀
+module _ (s e₀ t₀ left : List ℕ) where
+  pub filling_begins : left ≡ s → Filling s e₀ t₀ left 0 0 e₀ t₀
   unfolding frames_of
-  filling_begins n f e =
-      record {
-        here = e;
-        inside = omega arith;
-        few = f;
-        before = omega arith;
-        half = omega arith;
-        same_events = refl;
-        same_times = refl;
-        fills = refl;
-        tells = refl;
-      }
+  filling_begins e =
+      let a = all_bytes record_size fits s in
+      rw e (record { before = omega arith; half = omega arith; same_events = refl; same_times = refl; fills = refl; tells = refl })
 
-  module _ (place to time n : ℕ) (events times : List ℕ) (f : Filling s e₀ t₀ place to time n events times) where
-    pub filling_room : place + n ≤ length s
-    filling_room = lies record_size fits s place n f.here f.inside
-
-    pub filling_ends : n ≡ 0 → (events ≡ store e₀ 0 (events_of (frames_of s))) × (times ≡ store t₀ 0 (times_of (frames_of s)))
+  module _ (to time : ℕ) (events times : List ℕ) (f : Filling s e₀ t₀ left to time events times) where
+    pub filling_ends : pieces record_size left ≡ [] → (events ≡ store e₀ 0 (events_of (frames_of s))) × (times ≡ store t₀ 0 (times_of (frames_of s)))
     unfolding events_of times_of list_of store
     filling_ends z =
-        let none : ahead s place ≡ [] = ap (λ (xs : List (List ℕ)). map captured_of xs) (stop record_size fits s place n f.here z) in (
+        let none : ahead left ≡ [] = ap (λ (xs : List (List ℕ)). map captured_of xs) z in (
           ap (λ (cs : List Captured). store events to (events_of cs)) (sym none) ∙ f.fills,
           ap (λ (cs : List Captured). store times time (times_of cs)) (sym none) ∙ f.tells,
         )
 
-    pub filling_fits : (x : List ℕ) → x ≡ take n (drop place s) → to + length x < 2 ^ 64
-    filling_fits x ex =
-        let lx : length x ≡ n = ap length ex ∙ has record_size fits s place n f.here in
-        let r = filling_room in
-        let few = f.few in
-        let b = f.before in
-        omega arith
-
-    module _ (some : n ≡ 0 → ⊥) where
-      pub filling_least : 16 ≤ n
+    module _ (x : List ℕ) (xs : List (List ℕ)) (e : pieces record_size left ≡ x ∷ xs) where
+      pub filling_least : 16 ≤ length x
       filling_least =
-          let e = f.here in
-          let l = least (drop place s) (λ q. some (e ∙ q)) in
+          let f = first_piece record_size fits left x xs e in
+          let k = f.0 in
+          let l = least left f.1 in
           omega arith
 
-      pub filling_on : (k : ℕ) (x events' times' : List ℕ) → x ≡ take n (drop place s) → events' ≡ store events to (bytes_of (frame_event (captured_of x)))
-          → times' ≡ store times time (time_bytes (captured_of x)) → k ≡ record_size (drop (place + n) s)
-          → Filling s e₀ t₀ (place + n) (to + (n - 7)) (time + 8) k events' times'
+      pub filling_room : (to + (length x + sizes xs) ≤ length s) × (2 * time + (length x + sizes xs) ≤ length s)
+      filling_room = (rw e at f.before, rw e at f.half)
+
+      pub filling_on : (rest events' times' : List ℕ) → xs ≡ pieces record_size rest → events' ≡ store events to (bytes_of (frame_event (captured_of x)))
+          → times' ≡ store times time (time_bytes (captured_of x)) → Filling s e₀ t₀ rest (to + (length x - 7)) (time + 8) events' times'
       unfolding events_of times_of list_of
-      filling_on k x events' times' ex ee et e =
-          let lx : length x ≡ n = ap length ex ∙ has record_size fits s place n f.here in
+      filling_on rest events' times' er ee et =
           let l = filling_least in
-          let rest = ahead s (place + n) in
-          let one : ahead s place ≡ captured_of x ∷ rest =
-          ap (λ (xs : List (List ℕ)). map captured_of xs) (turn record_size fits s place n f.here some) ∙ ap (λ (y : List ℕ). captured_of y ∷ rest) (sym ex) in
-          let le = length_event_of x (omega arith) in
+          let r = filling_room in
+          let b = r.0 in
+          let h = r.1 in
+          let cs = map captured_of xs in
+          let one : ahead left ≡ captured_of x ∷ cs = ap (λ (ys : List (List ℕ)). map captured_of ys) e in
+          let le = length_event_of x l in
           let lt = length_time (captured_of x) in
-          let je : to + (n - 7) ≡ to + length (bytes_of (frame_event (captured_of x))) = omega arith in
+          let je : to + (length x - 7) ≡ to + length (bytes_of (frame_event (captured_of x))) = omega arith in
           let jt : time + 8 ≡ time + length (time_bytes (captured_of x)) = omega arith in
-          let pe : store events' (to + (n - 7)) (events_of rest) ≡ store events to (events_of (captured_of x ∷ rest)) =
-          rw ee (store_append events to (to + (n - 7)) (bytes_of (frame_event (captured_of x))) (events_of rest) je) in
-          let pt : store times' (time + 8) (times_of rest) ≡ store times time (times_of (captured_of x ∷ rest)) =
-          rw et (store_append times time (time + 8) (time_bytes (captured_of x)) (times_of rest) jt) in
-          let b = f.before in
-          let h = f.half in
+          let pe : store events' (to + (length x - 7)) (events_of cs) ≡ store events to (events_of (captured_of x ∷ cs)) =
+          rw ee (store_append events to (to + (length x - 7)) (bytes_of (frame_event (captured_of x))) (events_of cs) je) in
+          let pt : store times' (time + 8) (times_of cs) ≡ store times time (times_of (captured_of x ∷ cs)) =
+          rw et (store_append times time (time + 8) (time_bytes (captured_of x)) (times_of cs) jt) in
           record {
-            here = e;
-            inside = filling_room;
-            few = f.few;
-            before = omega arith;
-            half = omega arith;
+            before = rw (← er) (omega arith);
+            half = rw (← er) (omega arith);
             same_events = ap length ee ∙ length_store events to (bytes_of (frame_event (captured_of x))) ∙ f.same_events;
             same_times = ap length et ∙ length_store times time (time_bytes (captured_of x)) ∙ f.same_times;
-            fills = pe ∙ ap (λ (cs : List Captured). store events to (events_of cs)) (sym one) ∙ f.fills;
-            tells = pt ∙ ap (λ (cs : List Captured). store times time (times_of cs)) (sym one) ∙ f.tells;
+            fills = rw (← er) (pe ∙ ap (λ (ds : List Captured). store events to (events_of ds)) (sym one) ∙ f.fills);
+            tells = rw (← er) (pt ∙ ap (λ (ds : List Captured). store times time (times_of ds)) (sym one) ∙ f.tells);
           }

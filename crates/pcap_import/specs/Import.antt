@@ -1,8 +1,10 @@
 -- 02, Wish 7: "Import the same profile into frame events, times beside them, with the check sequence added. A cut header, other magics,
 -- versions, link types, then, record by record, cut records and unequal lengths, then too little room are refused." Each refusal "takes
 -- its own next number .. as named, is tested in that order and changes nothing" (Wish 4). Assumes nothing.
-use Rattle.std.specs.Prelude.{ℕ, Bool, not, ◌||◌, List, [], ◌∷◌, ◌++◌, map, eqb, ltb, length, drop}
+use Rattle.std.specs.Prelude.{ℕ, Bool, not, ◌||◌, List, [], ◌∷◌, ◌++◌, map, eqb, ltb, length, drop, Result, Ok, Err}
 use Rattle.std.specs.Prelude.{if◌then◌else◌}
+use Rattle.answer.specs.declared.Refusal.{Refusal}
+use Rattle.answer.specs.Refusals.{refusal_number}
 use Rattle.rules.specs.Choice.{◌otherwise◌}
 use Rattle.memory.specs.Memory.{word, word_bytes, store}
 use Rattle.event.specs.Event.{Event, frame, list_of}
@@ -50,8 +52,17 @@ import_number file events times =
     if too_little (imported_frames file) events times then 37 else
     0)
 
--- how many bytes the events have and how many frames there are, or the number of the refusal and zeros
-unfoldable pub look : List ℕ → ℕ → ℕ → Imported
+-- what import answers: 0, how many bytes the events have and how many frames there are; or the number of the refusal and zeros
+pub record Answer : Type 0 where
+  pub number : ℕ
+  pub bytes : ℕ
+  pub frames : ℕ
+
+abbrev pub answer_of : Result Imported Refusal → Answer
+answer_of (Ok i) = record { number = 0; bytes = i.bytes; frames = i.frames }
+answer_of (Err refusal) = record { number = refusal_number refusal; bytes = 0; frames = 0 }
+
+unfoldable pub look : List ℕ → ℕ → ℕ → Answer
 look file events times =
     let n = import_number file events times in
     let cs = imported_frames file in
@@ -61,11 +72,11 @@ look file events times =
 
 -- what import gives: that, and both rooms, with the events and the times at their fronts
 pub record Importing : Type 0 where
-  pub imported : Imported
+  pub imported : Answer
   pub events : List ℕ
   pub times : List ℕ
 
-abbrev pub importing : Imported → List ℕ → List ℕ → Importing
+abbrev pub importing : Answer → List ℕ → List ℕ → Importing
 importing i events times = record { imported = i; events = events; times = times }
 
 unfoldable pub import : List ℕ → List ℕ → List ℕ → Importing

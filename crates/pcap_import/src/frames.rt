@@ -5,17 +5,15 @@ ghost use Rattle.event.specs.Event.{bytes_of};
 ghost use Rattle.pcap_records.specs.Records.{captured_of, frames_of};
 ghost use Rattle.pcap_import.specs.Import.{frame_event, events_of, time_bytes, times_of};
 
+use pcap_records::Records;
+
 // The first bytes of a frame event: which event it is, and how many bytes the frame has.
+#[tactic(auto, unfolding(memory::specs::Memory::word_bytes))]
 fn head(n: usize) -> [u8; 5]
     ensures { result ≡ 3 ∷ word_bytes n }
 {
-    [
-        3,
-        (n % 256) as u8,
-        (n / 256 % 256) as u8,
-        (n / 256 / 256 % 256) as u8,
-        (n / 256 / 256 / 256 % 256) as u8,
-    ]
+    let [a, b, c, d] = pcap::low_bytes(n);
+    [3, a, b, c, d]
 }
 
 // The frame of a record, without a check sequence.
@@ -58,17 +56,12 @@ fn put_time(item: &[u8], times: &mut [u8], at: usize)
 pub(crate) fn put_all(records: &[u8], events: &mut [u8], times: &mut [u8])
     ensures { (events.new ≡ store events.old 0 (events_of (frames_of records.now))) × (times.new ≡ store times.old 0 (times_of (frames_of records.now))) }
 {
-    let mut place = 0;
     let mut to = 0;
     let mut time = 0;
-    let mut n = pcap_records::size_at(records, 0);
-    while n != 0 {
-        let item = memory::part(records, place, n);
-        put_event(item, events, to);
-        put_time(item, times, time);
-        place += n;
-        to += n - 7;
+    for record in Records::new(records) {
+        put_event(record, events, to);
+        put_time(record, times, time);
+        to += record.len() - 7;
         time += 8;
-        n = pcap_records::size_at(records, place);
     }
 }

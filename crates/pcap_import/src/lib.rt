@@ -4,33 +4,35 @@
 mod frames;
 
 ghost use Rattle.std.specs.Prelude.{◌≡◌, drop};
-ghost use Rattle.pcap_import.specs.Import.{header_fault, look, importing, import};
+ghost use Rattle.answer.specs.Refusals.{number_of};
+ghost use Rattle.pcap_import.specs.Import.{header_fault, look, answer_of, importing, import};
 
-// What a capture gave: 0, how many bytes its events have and how many frames it has; or the number of the refusal and zeros.
+use answer::Refusal;
+
+// What a capture gave: how many bytes its events have and how many frames it has.
 #[derive(Clone, Copy)]
 pub struct Imported {
-    pub number: u32,
     pub bytes: usize,
     pub frames: usize,
 }
 
-// What is wrong with the header, or 0.
-fn header_fault(file: &[u8]) -> u32
-    ensures { result ≡ header_fault file.now }
+// What is wrong with the header.
+fn header_fault(file: &[u8]) -> Result<(), Refusal>
+    ensures { number_of result ≡ header_fault file.now }
 {
     if file.len() < pcap::HEADER {
-        return answer::CAPTURE_HEADER;
+        return Err(Refusal::CaptureHeader);
     }
     if memory::word(file, 0) != pcap::MAGIC {
-        return answer::MAGIC;
+        return Err(Refusal::Magic);
     }
     if memory::word(file, 4) != pcap::VERSION {
-        return answer::VERSION;
+        return Err(Refusal::Version);
     }
     if memory::word(file, 20) != pcap::LINK_TYPE {
-        return answer::LINK_TYPE;
+        return Err(Refusal::LinkType);
     }
-    answer::DONE
+    Ok(())
 }
 
 // The bytes behind the header.
@@ -40,54 +42,34 @@ fn records_of(file: &[u8]) -> &[u8]
     memory::part(file, pcap::HEADER, file.len())
 }
 
-// A refusal by a number.
-fn refused(number: u32) -> Imported
-    ensures { result ≡ record { number = number; bytes = 0; frames = 0 } }
-{
-    Imported {
-        number,
-        bytes: 0,
-        frames: 0,
-    }
-}
-
 // What a capture says to a reader with so many bytes of room for events and for times. An event has seven bytes fewer than its record.
-fn look(file: &[u8], events: usize, times: usize) -> Imported
-    ensures { result ≡ look file.now events times }
+fn look(file: &[u8], events: usize, times: usize) -> Result<Imported, Refusal>
+    ensures { answer_of result ≡ look file.now events times }
 {
-    let header = header_fault(file);
-    if header != 0 {
-        return refused(header);
-    }
+    header_fault(file)?;
     let records = records_of(file);
-    let walked = pcap_records::walk(records);
-    if walked.number != 0 {
-        return refused(walked.number);
-    }
+    let walked = pcap_records::walk(records)?;
     if !walked.storable {
-        return refused(answer::IMPORT_ROOM);
+        return Err(Refusal::ImportRoom);
     }
     let bytes = records.len() - 7 * walked.frames;
     if events < bytes {
-        return refused(answer::IMPORT_ROOM);
+        return Err(Refusal::ImportRoom);
     }
     if times < 8 * walked.frames {
-        return refused(answer::IMPORT_ROOM);
+        return Err(Refusal::ImportRoom);
     }
-    Imported {
-        number: answer::DONE,
+    Ok(Imported {
         bytes,
         frames: walked.frames,
-    }
+    })
 }
 
 // Imports a capture: its frame events to the front of one room, their times to the front of the other.
-pub fn import(file: &[u8], events: &mut [u8], times: &mut [u8]) -> Imported
-    ensures { importing result events.new times.new ≡ import file.now events.old times.old }
+pub fn import(file: &[u8], events: &mut [u8], times: &mut [u8]) -> Result<Imported, Refusal>
+    ensures { importing (answer_of result) events.new times.new ≡ import file.now events.old times.old }
 {
-    let imported = look(file, events.len(), times.len());
-    if imported.number == 0 {
-        frames::put_all(records_of(file), events, times);
-    }
-    imported
+    let imported = look(file, events.len(), times.len())?;
+    frames::put_all(records_of(file), events, times);
+    Ok(imported)
 }

@@ -1,10 +1,9 @@
 -- docs/CAPTURE.md, "The list of frames": frames, each with its time, as one string of bytes. Assumes nothing.
-use Rattle.std.specs.Prelude.{ℕ, ◌+◌, Bool, List, [], ◌∷◌, ◌++◌, map, eqb, ltb, length, drop}
+use Rattle.std.specs.Prelude.{ℕ, ◌+◌, Bool, List, [], ◌∷◌, ◌++◌, map, eqb, ltb, length, drop, Result, Ok, Err}
 use Rattle.std.specs.Prelude.{if◌then◌else◌}
 use Rattle.memory.specs.Memory.{word, word_bytes}
 use Rattle.pieces.specs.Pieces.{pieces, sizes}
 use Rattle.pcap.specs.Capture.{Captured}
-use Rattle.pcap_list.specs.declared.Listed.{Listed}
 
 -- ---- made
 
@@ -43,5 +42,6 @@ of_its_form list = eqb (sizes (pieces entry_size list)) (length list)
 
 -- ---- as the code answers it
 
-abbrev pub listed : List ℕ → Listed
-listed list = record { whole = of_its_form list; frames = length (entries_of list) }
+-- whether a list is of its form, and how many whole entries it has
+abbrev pub listed : List ℕ → Result ℕ ℕ
+listed list = if of_its_form list then Ok (length (entries_of list)) else Err (length (entries_of list))

@@ -1,63 +1,84 @@
-// Frames, each with its time, as one string of bytes (02, Wish 7; docs/CAPTURE.md): the entry at a place, a walk along the list, and an
-// entry put behind others.
+// Frames, each with its time, as one string of bytes (02, Wish 7; docs/CAPTURE.md): the entry at a place, the entries one behind the
+// other, and an entry put behind others.
 #![tactic(auto)]
 
 ghost use Rattle.std.specs.Prelude.{◌≡◌, drop};
-ghost use Rattle.appending.specs.Put.{put_of, put};
+ghost use Rattle.std.specs.Iterator.{YieldsFirstRef, item_count};
+ghost use Rattle.appending.specs.Put.{put};
+ghost use Rattle.pieces.specs.Pieces.{pieces, unless_zero};
 ghost use Rattle.pcap_list.specs.Entries.{entry_bytes, entry_size, listed};
 
 // The bytes of an entry before its frame: the first of those that a record has.
 pub const HEAD: usize = 12;
 
-// Whether a list is of its form, and how many whole entries it has.
-#[derive(Clone, Copy)]
-pub struct Listed {
-    pub whole: bool,
-    pub frames: usize,
-}
-
-// How many bytes the entry at a place has, 0 where there is no whole one.
-pub fn size_at(list: &[u8], place: usize) -> usize
-    ensures { result ≡ entry_size (drop place list.now) }
+// How many bytes the entry at a place has, where a whole one is.
+pub fn size_at(list: &[u8], place: usize) -> Option<usize>
+    ensures { result ≡ unless_zero (entry_size (drop place list.now)) }
 {
-    if list.len() <= place {
-        return 0;
-    }
-    let left = list.len() - place;
-    if left < HEAD {
-        return 0;
-    }
+    let left = list.len().checked_sub(place)?.checked_sub(HEAD)?;
     let n = memory::word(list, place + 8) as usize;
-    if left - HEAD < n {
-        return 0;
-    }
-    HEAD + n
+    if left < n { None } else { Some(HEAD + n) }
 }
 
-// The entries of a list, one behind the other.
-pub fn walk(list: &[u8]) -> Listed
+// The whole entries of a list, one behind the other.
+#[derive(Drop)]
+pub struct Entries<'a> {
+    left: &'a [u8],
+}
+
+impl<'a> Entries<'a> {
+    pub fn new(list: &'a [u8]) -> Self
+        ensures { result.left.now ≡ list.now }
+    {
+        Entries { left: list }
+    }
+}
+
+impl<'a> Iterator for Entries<'a> {
+    type Item = &'a [u8];
+
+    ghost next_gives = { YieldsFirstRef (λ s. pieces entry_size s.left.now) };
+
+    ghost remaining = { item_count (λ s. pieces entry_size s.left.now) };
+
+    fn next(&mut self) -> Option<&'a [u8]> {
+        let n = size_at(self.left, 0)?;
+        let (entry, left) = self.left.split_at(n);
+        self.left = left;
+        Some(entry)
+    }
+}
+
+// How many frames a list of its form has; of another list the error says how many whole entries stand before the rest.
+pub fn walk(list: &[u8]) -> Result<usize, usize>
     ensures { result ≡ listed list.now }
 {
     let mut place = 0;
     let mut frames = 0;
-    let mut n = size_at(list, 0);
-    while n != 0 {
-        place += n;
+    for entry in Entries::new(list) {
+        place += entry.len();
         frames += 1;
-        n = size_at(list, place);
     }
-    Listed {
-        whole: place == list.len(),
-        frames,
+    if place == list.len() {
+        Ok(frames)
+    } else {
+        Err(frames)
     }
 }
 
-// Puts a frame with its time behind the first `at` bytes of a list, and answers where its entry ends; 0, and the list as it was, where
-// it has no room. Of a time or a length that is longer than four bytes the lowest four are put.
-pub fn put(list: &mut [u8], at: usize, seconds: usize, microseconds: usize, frame: &[u8]) -> usize
-    ensures { put_of result list.new ≡ put list.old at (entry_bytes (record { seconds = seconds; microseconds = microseconds; frame = frame.now })) }
+// Puts a frame with its time behind the first `at` bytes of a list, and answers where its entry ends; where it has no room, the list is
+// as it was. Of a time or a length that is longer than four bytes the lowest four are put.
+pub fn put(
+    list: &mut [u8],
+    at: usize,
+    seconds: usize,
+    microseconds: usize,
+    frame: &[u8],
+) -> Option<usize>
+    ensures end { result ≡ unless_zero (put list.old at (entry_bytes (record { seconds = seconds; microseconds = microseconds; frame = frame.now }))).end }
+    ensures after { list.new ≡ (put list.old at (entry_bytes (record { seconds = seconds; microseconds = microseconds; frame = frame.now }))).list }
 {
     let head = pcap::head(seconds, microseconds, frame.len());
-    let bytes = head.bytes;
-    appending::put(list, at, memory::part(&bytes, 0, HEAD), frame)
+    let end = appending::put(list, at, &head[..HEAD], frame);
+    if end == 0 { None } else { Some(end) }
 }

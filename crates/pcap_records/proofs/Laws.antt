@@ -8,11 +8,16 @@ use lib.Dec.{eqb, ltb}
 use lib.ListN.{length, drop, length-drop}
 use borrow.Author.Tests.{lt-ltb, le-ltb, ltb-false, eq-eqb, ne_eqb}
 use Rattle.rules.proofs.Choices.{by_test, if_yes, if_no, or_yes, or_last, or_no, or_parts}
+use Rattle.std.proofs.Common.{Option, None, Some, Result, Ok, Err}
+use Rattle.answer.specs.declared.Refusal.{Refusal}
+use Rattle.answer.specs.declared.Refusal.TheVariants.{RecordCut, RecordLengths}
+use Rattle.answer.specs.Refusals.{number_of}
 use Rattle.memory.specs.Memory.{word}
 use Rattle.memory.proofs.Parts.{word_from}
+use Rattle.pieces.specs.Pieces.{unless_zero}
+use Rattle.pieces.proofs.Options.{no_size, size_is}
 use Rattle.pieces.proofs.Turns.{Fits}
-use Rattle.pcap_records.specs.declared.Found.{Found}
-use Rattle.pcap_records.specs.Records.{cut_record, unequal_lengths, record_size, record_fault, found}
+use Rattle.pcap_records.specs.Records.{cut_record, unequal_lengths, record_size, record_fault, size_of}
 
 -- ---- the size of a record
 
@@ -31,22 +36,23 @@ least s =
     by_test (λ n. (n ≡ 0 → ⊥) → 16 ≤ n) (cut_record s) _ _ (λ t h. absurd (h refl))
     (λ t. by_test (λ n. (n ≡ 0 → ⊥) → 16 ≤ n) (unequal_lengths s) _ _ (λ u h. absurd (h refl)) (λ u h. omega arith))
 
--- ---- what stands at a place, by the ways out of the code
+-- ---- what stands at a place, by the ways out of the code: its size, and what is wrong with it
 
-same : {a b c d : ℕ} → a ≡ b → c ≡ d → ◌≡◌ {A = Found} (record { size = a; number = c }) (record { size = b; number = d })
-same p q = λ i. record { size = p i; number = q i }
+-- the answer r
+abbrev At : Result (Option ℕ) Refusal → List ℕ → Type 0
+At r s = (size_of r ≡ unless_zero (record_size s)) × (number_of r ≡ record_fault s)
 
 module _ (s : List ℕ) (p : ℕ) where
   long : length (drop p s) ≡ length s - p
   long = length-drop p s
 
-  pub nothing_left : length s ≤ p → ◌≡◌ {A = Found} (record { size = 0; number = 0 }) (found (drop p s))
+  pub nothing_left : length s ≤ p → At (Ok None) (drop p s)
   unfolding record_size record_fault cut_record
   nothing_left h =
       let l = long in
-      let cut = or_yes (ltb (length (drop p s)) 16) _ (lt-ltb (length (drop p s)) 16 (omega arith)) in
       let none = eq-eqb (length (drop p s)) 0 (omega arith) in
-      same (if_yes _ _ _ _ cut refl) (if_yes _ _ _ _ none refl)
+      let cut = or_yes (ltb (length (drop p s)) 16) _ (lt-ltb (length (drop p s)) 16 (omega arith)) in
+      (no_size _ (if_yes _ _ _ _ cut refl), if_yes _ _ _ _ none refl)
 
   module _ (here : p < length s) where
     some : eqb (length (drop p s)) 0 ≡ false
@@ -54,11 +60,11 @@ module _ (s : List ℕ) (p : ℕ) where
         let l = long in
         ne_eqb (length (drop p s)) 0 (λ q. omega arith)
 
-    by_cut : cut_record (drop p s) ≡ true → ◌≡◌ {A = Found} (record { size = 0; number = 35 }) (found (drop p s))
+    by_cut : cut_record (drop p s) ≡ true → At (Err RecordCut) (drop p s)
     unfolding record_size record_fault
-    by_cut t = same (if_yes _ _ _ _ t refl) (if_no _ _ _ _ some (if_yes _ _ _ _ t refl))
+    by_cut t = (no_size _ (if_yes _ _ _ _ t refl), if_no _ _ _ _ some (if_yes _ _ _ _ t refl))
 
-    pub cut_head : length s - p < 16 → ◌≡◌ {A = Found} (record { size = 0; number = 35 }) (found (drop p s))
+    pub cut_head : length s - p < 16 → At (Err RecordCut) (drop p s)
     unfolding cut_record
     cut_head h = by_cut (or_yes _ _ (lt-ltb (length (drop p s)) 16 (rw long h)))
 
@@ -66,7 +72,7 @@ module _ (s : List ℕ) (p : ℕ) where
       captured : word (drop p s) 8 ≡ n
       captured = word_from s p 8 ∙ sym e
 
-      pub cut_frame : length s - p - 16 < n → ◌≡◌ {A = Found} (record { size = 0; number = 35 }) (found (drop p s))
+      pub cut_frame : length s - p - 16 < n → At (Err RecordCut) (drop p s)
       unfolding cut_record
       cut_frame h =
           let l = long in
@@ -79,14 +85,15 @@ module _ (s : List ℕ) (p : ℕ) where
             let l = long in
             or_no _ _ (le-ltb (length (drop p s)) 16 (omega arith)) (rw captured (le-ltb (length (drop p s)) (16 + n) (omega arith)))
 
-        pub unequal : (n ≡ m → ⊥) → ◌≡◌ {A = Found} (record { size = 0; number = 36 }) (found (drop p s))
+        pub unequal : (n ≡ m → ⊥) → At (Err RecordLengths) (drop p s)
         unfolding record_size record_fault unequal_lengths
         unequal g =
             let t : unequal_lengths (drop p s) ≡ true = rw (captured, word_from s p 12, ← d, ne_eqb n m g) in
-            same (if_no _ _ _ _ whole (if_yes _ _ _ _ t refl)) (if_no _ _ _ _ some (if_no _ _ _ _ whole (if_yes _ _ _ _ t refl)))
+            (no_size _ (if_no _ _ _ _ whole (if_yes _ _ _ _ t refl)), if_no _ _ _ _ some (if_no _ _ _ _ whole (if_yes _ _ _ _ t refl)))
 
-        pub equal : n ≡ m → ◌≡◌ {A = Found} (record { size = 16 + n; number = 0 }) (found (drop p s))
+        pub equal : n ≡ m → At (Ok (Some (16 + n))) (drop p s)
         unfolding record_size record_fault unequal_lengths
         equal g =
             let t : unequal_lengths (drop p s) ≡ false = rw (captured, word_from s p 12, ← d, eq-eqb n m g) in
-            same (if_no _ _ _ _ whole (if_no _ _ _ _ t (rw captured))) (if_no _ _ _ _ some (if_no _ _ _ _ whole (if_no _ _ _ _ t refl)))
+            let k : 16 + n ≡ record_size (drop p s) = if_no _ _ _ _ whole (if_no _ _ _ _ t (rw captured)) in
+            (size_is _ _ k (λ z. omega arith), if_no _ _ _ _ some (if_no _ _ _ _ whole (if_no _ _ _ _ t refl)))

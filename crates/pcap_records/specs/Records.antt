@@ -1,13 +1,15 @@
 -- 02, Wish 7, of import: "record by record, cut records and unequal lengths". Here of the bytes of a capture behind its header.
 -- Assumes nothing.
-use Rattle.std.specs.Prelude.{ℕ, ◌+◌, ◌^◌, Bool, true, not, ◌&&◌, ◌||◌, List, [], ◌∷◌, ◌++◌, map, eqb, ltb, length, drop}
+use Rattle.std.specs.Prelude.{ℕ, ◌+◌, ◌^◌, Bool, true, not, ◌&&◌, ◌||◌, List, [], ◌∷◌, ◌++◌, map, eqb, ltb, length, drop, Option, None, Result, Ok, Err}
 use Rattle.std.specs.Prelude.{if◌then◌else◌}
+use Rattle.answer.specs.declared.Refusal.{Refusal}
+use Rattle.answer.specs.Refusals.{refusal_number}
 use Rattle.memory.specs.Memory.{word}
 use Rattle.fcs.specs.CheckSequence.{check_sequence}
 use Rattle.pieces.specs.Pieces.{pieces, behind}
 use Rattle.pcap.specs.Capture.{Captured}
-use Rattle.pcap_records.specs.declared.Found.{Found}
 use Rattle.pcap_records.specs.declared.Walked.{Walked}
+use Rattle.pcap_records.specs.declared.Wrong.{Wrong}
 
 -- the record at the front is cut: in its 16 bytes, or in the bytes of its captured length behind them
 unfoldable pub cut_record : List ℕ → Bool
@@ -58,9 +60,20 @@ all_storable (c ∷ cs) = storable c.frame && all_storable cs
 
 -- ---- as the code answers it
 
-abbrev pub found : List ℕ → Found
-found s = record { size = record_size s; number = record_fault s }
+-- the size of what is right
+abbrev pub size_of : Result (Option ℕ) Refusal → Option ℕ
+size_of (Ok size) = size
+size_of (Err refusal) = None
 
+-- the number of the first record that is wrong, or 0, and what is before it
+abbrev pub fault_of : Result Walked Wrong → ℕ
+fault_of (Ok w) = 0
+fault_of (Err wrong) = refusal_number wrong.refusal
+
+abbrev pub reached : Result Walked Wrong → Walked
+reached (Ok w) = w
+reached (Err wrong) = wrong.before
+
+-- the records that are right before the first that is wrong, or all
 abbrev pub walked : List ℕ → Walked
-walked s =
-    record { number = records_fault s; frames = length (frames_of s); storable = all_storable (frames_of s) }
+walked s = record { frames = length (frames_of s); storable = all_storable (frames_of s) }

@@ -7,13 +7,15 @@ ghost use Rattle.commands.specs.Commands.{peek_says, check_says};
 
 use enet::Enet;
 
+#[tactic(auto, unfolding(commands::specs::Commands::peek_says))]
 pub fn peek(device: Enet, address: u32, n: u32, memory: &[u8], text: &mut [u8], at: usize) -> usize
     ensures { written result text.new ≡ put text.old at (peek_says device memory.now address n) }
 {
-    if !window::in_window(device.base, device.window, address, n) {
+    let window = device.whole_window();
+    if !window.holds(address, n) {
         return replies::said(text, at, b"peek outside");
     }
-    let from = window::offset(device.base, address);
+    let from = window.offset(address);
     reports::held(text, at, b"peek", memory::part(memory, from, n as usize))
 }
 

@@ -1,6 +1,6 @@
 -- A string of bytes as pieces one behind the other. How long the piece at the front of a string is, the string says itself: `size`
 -- tells it, and is 0 where there is none. Assumes nothing.
-use Rattle.std.specs.Prelude.{ℕ, zero, suc, ◌+◌, List, [], ◌∷◌, ◌++◌, eqb, length, take, drop}
+use Rattle.std.specs.Prelude.{ℕ, zero, suc, ◌+◌, List, [], ◌∷◌, ◌++◌, eqb, length, take, drop, Option, None, Some}
 use Rattle.std.specs.Prelude.{if◌then◌else◌}
 
 -- at most n pieces
@@ -25,3 +25,7 @@ behind size s = drop (sizes (pieces size s)) s
 abbrev pub joined : List (List ℕ) → List ℕ
 joined [] = []
 joined (x ∷ xs) = x ++ joined xs
+
+-- a size as the code answers it: nothing in place of 0
+abbrev pub unless_zero : ℕ → Option ℕ
+unless_zero n = if eqb n 0 then None else Some n

@@ -12,7 +12,7 @@ use Rattle.memory.specs.Memory.{word}
 use Rattle.event.specs.Event.{Event, register_write, grant, frame, send}
 use Rattle.event.specs.Front.{Front, whole, cut, no_event, frame_front, front, found}
 use Rattle.event.specs.declared.Found.{Found}
-use Rattle.event.specs.declared.Found.TheVariants.{RegisterWrite, Grant, Frame, Send, Cut, NoEvent}
+use Rattle.event.specs.declared.Found.TheVariants.{RegisterWrite, Grant, Frame, Send}
 use Rattle.enet.specs.declared.Enet.{Enet}
 use Rattle.enet.specs.declared.Answered.{Answered}
 use Rattle.enet.specs.declared.Sent.{Sent}
@@ -45,12 +45,6 @@ module _ (d : Enet) (m m' out list : List ℕ) (f : Found) (r : Acted) where
       → r ≡ silent a → acting r m' out ≡ act_as (bench_of d m) out list f
   unfolding act
   act_frame start n s a e p h q = rw (q, e, ← p, ← h)
-
-  pub act_cut : f ≡ Cut → r ≡ record { number = 22; count = 0; device = d } → acting r m out ≡ act_as (bench_of d m) out list f
-  act_cut e q = rw (q, e)
-
-  pub act_no_event : f ≡ NoEvent → r ≡ record { number = 22; count = 0; device = d } → acting r m out ≡ act_as (bench_of d m) out list f
-  act_no_event e q = rw (q, e)
 
 pub act_send : (d : Enet) (m m' out out' list : List ℕ) (f : Found) (s : Sent) → f ≡ Send → sending s m' out' ≡ sent d m out
     → acting (record { number = s.number; count = s.count; device = s.device }) m' out' ≡ act_as (bench_of d m) out list f

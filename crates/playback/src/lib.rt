@@ -22,11 +22,10 @@ pub struct Acted {
 fn sends_nothing(a: Answered) -> Acted
     ensures { result ≡ record { number = a.number; count = 0; device = a.device } }
 {
-    let device = a.device;
     Acted {
         number: a.number,
         count: 0,
-        device,
+        device: a.device,
     }
 }
 
@@ -54,15 +53,13 @@ pub fn act(device: Enet, memory: &mut [u8], output: &mut [u8], list: &[u8], foun
         )),
         Found::Send => {
             let s = device.send(memory, output);
-            let next = s.device;
             Acted {
                 number: s.number,
                 count: s.count,
-                device: next,
+                device: s.device,
             }
         }
-        Found::Cut => no_event(device),
-        Found::NoEvent => no_event(device),
+        Found::Cut | Found::NoEvent => no_event(device),
     }
 }
 

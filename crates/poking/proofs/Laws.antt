@@ -1,11 +1,10 @@
 -- Laws of the firmware's write: where the bytes are stored, and what is said. Assumes nothing.
 use Prim.Native.Nat.{ℕ}
-use mathlib.Core.Path.{◌≡◌, refl, sym, ap, ◌∙◌}
-use mathlib.Core.Bool.{Bool, true, false, not}
+use mathlib.Core.Path.{◌≡◌, ap, ◌∙◌}
+use mathlib.Core.Bool.{Bool, true, false}
 use mathlib.Core.List.{List}
 use lib.ListN.{length, take}
 use Rattle.std.specs.Prelude.{if◌then◌else◌}
-use Rattle.rules.proofs.Choices.{said_yes, said_no}
 use Rattle.memory.specs.Memory.{store}
 use Rattle.window.specs.Window.{in_window, offset}
 use Rattle.words.specs.Words.{characters}
@@ -16,15 +15,6 @@ use Rattle.replies.specs.Replies.{either}
 use Rattle.commands.specs.declared.Console.{Console}
 use Rattle.commands.specs.Answers.{given, tells}
 use Rattle.commands.specs.Commands.{poke}
-
--- the window has all of the n bytes, or not
-module _ (base window address n : ℕ) (m : List ℕ) (inside : Bool) (e : inside ≡ in_window base window address n) where
-  pub stored_outside : not inside ≡ true → (false ≡ in_window base window address n) × (m ≡ m)
-  stored_outside i = (sym (said_no _ inside e i), refl)
-
-  pub stored_inside : (m' s : List ℕ) (from : ℕ) → not inside ≡ false → from ≡ offset base address → m' ≡ store m from s
-      → (true ≡ in_window base window address n) × (m' ≡ store m (offset base address) s)
-  stored_inside m' s from i o k = (sym (said_yes _ inside e i), rw o at k)
 
 -- what is stored and said
 module _ (c : Console) (m m' t t' : List ℕ) (at end address : ℕ) where

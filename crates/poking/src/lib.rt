@@ -17,18 +17,7 @@ use forms::pairs;
 pub fn clear(memory: &mut [u8])
     ensures { memory.new ≡ zeros (length memory.old) }
 {
-    let mut i = 0;
-    while i < memory.len() {
-        memory[i] = 0;
-        i += 1;
-    }
-}
-
-// Room for the bytes that a line names.
-fn blank() -> [u8; 2048]
-    ensures { 2048 ≡ length result }
-{
-    [0; 2048]
+    memory.fill(0);
 }
 
 // Stores bytes where the window has all of them, and answers whether it has.
@@ -36,10 +25,11 @@ fn stored(device: Enet, address: u32, s: &[u8], memory: &mut [u8]) -> bool
     requires { length s.now ≤ 2048 }
     ensures { (result ≡ in_window device.base device.window address (length s.now)) × (memory.new ≡ (if result then store memory.old (offset device.base address) s.now else memory.old)) }
 {
-    if !window::in_window(device.base, device.window, address, s.len() as u32) {
+    let window = device.whole_window();
+    if !window.holds(address, s.len() as u32) {
         return false;
     }
-    let from = window::offset(device.base, address);
+    let from = window.offset(address);
     memory::store(memory, from, s);
     true
 }
@@ -54,7 +44,8 @@ pub fn poke(
 ) -> Told
     ensures { given result memory.new text.new ≡ tells (poke console memory.old address (named word.now)) text.old at }
 {
-    let mut bytes = blank();
+    // Room for the bytes that a line names.
+    let mut bytes = [0; 2048];
     let n = pairs::decode(word, &mut bytes);
     let inside = stored(console.device, address, memory::part(&bytes, 0, n), memory);
     let end = replies::either(text, at, inside, b"poke ok", b"poke outside");

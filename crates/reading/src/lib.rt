@@ -2,55 +2,48 @@
 #![tactic(auto)]
 
 ghost use Rattle.std.specs.Prelude.{◌≡◌};
+ghost use Rattle.answer.specs.Refusals.{number_of};
 ghost use Rattle.reading.specs.Reading.{shown, reading_number, reading};
 
+use answer::Refusal;
+use window::Window;
+
 // The descriptor shows a frame.
-fn shown(base: u32, window: u32, m: &[u8], d: u32) -> bool
-    ensures { result ≡ shown base window m.now d }
+#[tactic(auto, unfolding(crate::specs::Reading::shown))]
+fn shown(window: Window, m: &[u8], d: u32) -> bool
+    ensures { result ≡ shown window.base window.length m.now d }
 {
-    if !address::aligned(d) {
-        return false;
-    }
-    if !window::in_window(base, window, d, 16) {
-        return false;
-    }
-    if packet_status::granted(base, m, d) {
-        return false;
-    }
-    if !descriptor::start_aligned(base, m, d) {
-        return false;
-    }
-    let length = packet_status::frame_length(base, m, d);
-    if !frame::length_allowed(length as usize) {
-        return false;
-    }
-    window::in_window(base, window, descriptor::start(base, m, d), length)
+    let length = packet_status::frame_length(window, m, d);
+    address::aligned(d)
+        && window.holds(d, 16)
+        && !packet_status::granted(window, m, d)
+        && descriptor::start_aligned(window, m, d)
+        && frame::length_allowed(length as usize)
+        && window.holds(descriptor::start(window, m, d), length)
 }
 
 // The refusals, 11 and 13, or 0.
-pub fn reading_number(base: u32, window: u32, m: &[u8], d: u32) -> u32
-    ensures { result ≡ reading_number base window m.now d }
+#[tactic(auto, unfolding(crate::specs::Reading::reading_number))]
+pub fn reading_number(window: Window, m: &[u8], d: u32) -> Result<(), Refusal>
+    ensures { number_of result ≡ reading_number window.base window.length m.now d }
 {
-    if !window::lent(window, m) {
-        return answer::LENT_LENGTH;
+    if !window.lent(m) {
+        return Err(Refusal::LentLength);
     }
-    if !shown(base, window, m, d) {
-        return answer::NO_DESCRIPTOR;
+    if !shown(window, m, d) {
+        return Err(Refusal::NoDescriptor);
     }
-    answer::DONE
+    Ok(())
 }
 
 // The frame without its last four bytes, or an empty part.
-pub fn reading(base: u32, window: u32, m: &[u8], d: u32) -> &[u8]
-    ensures { result.now ≡ reading base window m.now d }
+pub fn reading(window: Window, m: &[u8], d: u32) -> &[u8]
+    ensures { result.now ≡ reading window.base window.length m.now d }
 {
-    if reading_number(base, window, m, d) != answer::DONE {
-        return &m[..0];
+    if reading_number(window, m, d).is_err() {
+        return &[];
     }
-    let n = packet_status::frame_length(base, m, d) as usize;
-    if n < 4 {
-        return &m[..0];
-    }
-    let from = window::offset(base, descriptor::start(base, m, d));
+    let n = packet_status::frame_length(window, m, d) as usize;
+    let from = window.offset(descriptor::start(window, m, d));
     memory::part(m, from, n - 4)
 }

@@ -1,13 +1,26 @@
--- A packet status word fits into 32 bits, and its length and VALID read back, whatever the reason. Assumes nothing.
+-- No frame is taken without a reason; and a packet status word fits into 32 bits, and its length and VALID read back, whatever the
+-- reason. Assumes nothing.
 use Prim.Native.Nat.{ℕ, ◌+◌, ◌/◌, ◌%◌, ◌^◌, ◌≤◌, ◌<◌}
-use mathlib.Core.Path.{◌≡◌}
+use mathlib.Core.Path.{◌≡◌, refl}
 use mathlib.Core.Bool.{false}
 use native.Mathlib.Omega.{arith}
 use borrow.Author.Tests.{ne_eqb}
 use lib.Dec.{eqb}
+use Rattle.std.specs.Prelude.{Option, Some, None}
+use Rattle.std.specs.Option.{is_some}
 use Rattle.rules.specs.Bit.{bit}
 use Rattle.rules.proofs.Choices.{by_test}
+use Rattle.reason.specs.declared.Reason.{Reason}
+use Rattle.reason.specs.declared.Reason.TheVariants.{Own, Broadcast, Group, ReceiveAll}
+use Rattle.reason.specs.Reason.{reason_number, taken}
 use Rattle.reason.specs.Status.{reason_bits, delivered_status}
+
+pub taken_is_some : (reason : Option Reason) → taken (reason_number reason) ≡ is_some reason
+taken_is_some None = refl
+taken_is_some (Some Own) = refl
+taken_is_some (Some Broadcast) = refl
+taken_is_some (Some Group) = refl
+taken_is_some (Some ReceiveAll) = refl
 
 -- a property of the reason's bits, by their values
 by_bits : (P : ℕ → Type 0) (reason : ℕ) → P 0x1000_0000 → P 0x0800_0000 → P 0 → P (reason_bits reason)

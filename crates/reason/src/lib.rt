@@ -3,17 +3,16 @@
 #![tactic(auto)]
 
 ghost use Rattle.std.specs.Prelude.{◌≡◌};
-ghost use Rattle.reason.specs.Reason.{reason_number};
+ghost use Rattle.reason.specs.Reason.{named, reason_number};
 ghost use Rattle.reason.specs.Status.{reason_bits, delivered_status};
 
-// What the address rule answers.
-#[derive(Clone, Copy)]
+// Why the address rule takes a frame, with the number that says so. It answers none where it does not take it.
+#[derive(Clone, Copy, Debug, PartialEq, Eq)]
 pub enum Reason {
-    NotTaken,
-    Own,
-    Broadcast,
-    Group,
-    ReceiveAll,
+    Own = 1,
+    Broadcast = 2,
+    Group = 3,
+    ReceiveAll = 4,
 }
 
 impl Reason {
@@ -24,34 +23,37 @@ impl Reason {
     const MULTICAST_FRAME: u32 = 0x0800_0000;
 }
 
+impl From<Reason> for u32 {
+    ghost from_gives = { λ reason number. number ≡ named reason };
+
+    fn from(reason: Reason) -> u32 {
+        reason as u32
+    }
+}
+
 // Its number: own, broadcast, group and receive-all 1 to 4, and 0 for not taken.
-pub fn number(reason: Reason) -> u32
+pub fn number(reason: Option<Reason>) -> u32
     ensures { result ≡ reason_number reason }
 {
     match reason {
-        Reason::NotTaken => 0,
-        Reason::Own => 1,
-        Reason::Broadcast => 2,
-        Reason::Group => 3,
-        Reason::ReceiveAll => 4,
+        Some(reason) => u32::from(reason),
+        None => 0,
     }
 }
 
 // The bit of a packet status word that says the reason, or 0 where none does.
-fn bits(reason: Reason) -> u32
+fn bits(reason: Option<Reason>) -> u32
     ensures { result ≡ reason_bits (reason_number reason) }
 {
     match reason {
-        Reason::NotTaken => 0,
-        Reason::Own => 0,
-        Reason::Broadcast => Reason::BROADCAST_FRAME,
-        Reason::Group => Reason::MULTICAST_FRAME,
-        Reason::ReceiveAll => 0,
+        Some(Reason::Broadcast) => Reason::BROADCAST_FRAME,
+        Some(Reason::Group) => Reason::MULTICAST_FRAME,
+        _ => 0,
     }
 }
 
 // The packet status word of a delivered frame: its length, and the bit of its reason.
-pub fn status(reason: Reason, length: u16) -> u32
+pub fn status(reason: Option<Reason>, length: u16) -> u32
     ensures { result ≡ delivered_status (reason_number reason) length }
 {
     bits(reason) + length as u32

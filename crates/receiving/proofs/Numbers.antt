@@ -1,5 +1,5 @@
 -- The ways out of the number of a receive, and its values. Assumes nothing.
-use mathlib.Core.Path.{◌≡◌}
+use mathlib.Core.Path.{◌≡◌, refl, sym}
 use mathlib.Core.Bool.{Bool, true, false, not}
 use mathlib.Core.List.{List}
 use Prim.Native.Nat.{ℕ, ◌≤◌}
@@ -28,10 +28,10 @@ module _ (base window : ℕ) (running : Bool) (place first : ℕ) (m : List ℕ)
   unfolding receive_number
   frame_first l r k e h = rw (l, r) (refused_by first _ k e h)
 
-  pub chain_last : lent window m ≡ true → not running ≡ false → (k : ℕ) → k ≡ first → k ≡ 0
+  pub chain_last : lent window m ≡ true → not running ≡ false → 0 ≡ first
       → (r : ℕ) → r ≡ chain_number base window m place n → r ≡ receive_number base window running place first m n
   unfolding receive_number
-  chain_last l r k e z x h = rw (l, r) (passed_by first _ k x e z h)
+  chain_last l r e x h = rw (l, r) (passed_by first _ 0 x e refl h)
 
 pub ruleset ways = (not_lent_11, stopped_3, frame_first, chain_last, said_yes, said_no)
 
@@ -45,13 +45,13 @@ by_receive_number P base window running place first m n r11 r3 rf r7 r8 r0 =
     by_number P first (chain_number base window m place n) (λ _. rf) (λ _. by_chain P base window m place n r7 r8 r0)))
 
 -- a frame that is not refused is of an allowed length
-pub received_short : (base window : ℕ) (running : Bool) (place reason : ℕ) (m f : List ℕ) (n : ℕ)
-    → n ≡ receive_number base window running place (frame_number_by reason f) m (length f) → n ≡ 0 → length f ≤ 1518
+pub received_short : (base window : ℕ) (running : Bool) (place reason : ℕ) (m f : List ℕ)
+    → 0 ≡ receive_number base window running place (frame_number_by reason f) m (length f) → length f ≤ 1518
 unfolding receive_number
-received_short base window running place reason m f n e z =
+received_short base window running place reason m f e =
     let short : ℕ → Type 0 = λ k. k ≡ 0 → length f ≤ 1518 in
     by_test short (not (lent window m)) _ _ (λ _ q. absurd (omega arith)) (λ _.
     by_test short (not running) _ _ (λ _ q. absurd (omega arith)) (λ _.
     by_number short (frame_number_by reason f) (chain_number base window m place (length f)) (λ _. passed_short reason f)
     (λ t _. passed_short reason f (eqb-true (frame_number_by reason f) 0 t))))
-    (rw e at z)
+    (sym e)

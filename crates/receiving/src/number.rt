@@ -1,31 +1,31 @@
 // The number of a receive.
 ghost use Rattle.std.specs.Prelude.{◌≡◌};
 ghost use Rattle.reason.specs.Reason.{reason_number};
+ghost use Rattle.answer.specs.Refusals.{number_of};
 ghost use Rattle.receiving.specs.Receiving.{receive_number_of};
 
+use answer::Refusal;
 use engine::Engine;
 use reason::Reason;
+use window::Window;
 
 // 11, 3, 4, 5, 6, 7 for the descriptor, 8, 7 for the buffer, or 0.
+#[tactic(auto, unfolding(crate::specs::Receiving::receive_number))]
 pub(crate) fn number(
-    base: u32,
-    window: u32,
+    window: Window,
     rx: Engine,
-    reason: Reason,
+    reason: Option<Reason>,
     m: &[u8],
     frame: &[u8],
-) -> u32
-    ensures { result ≡ receive_number_of base window rx (reason_number reason) m.now frame.now }
+) -> Result<(), Refusal>
+    ensures { number_of result ≡ receive_number_of window.base window.length rx (reason_number reason) m.now frame.now }
 {
-    if !window::lent(window, m) {
-        return answer::LENT_LENGTH;
+    if !window.lent(m) {
+        return Err(Refusal::LentLength);
     }
     if !rx.running {
-        return answer::NOT_RUNNING;
+        return Err(Refusal::NotRunning);
     }
-    let first = frame::frame_number(reason, frame);
-    if first != answer::DONE {
-        return first;
-    }
-    chain::number(base, window, m, rx.place, frame.len())
+    frame::frame_number(reason, frame)?;
+    chain::number(window, m, rx.place, frame.len())
 }

@@ -18,8 +18,8 @@ fn taken(
     image: &mut [u8; IMAGE],
     list: &mut [u8; LIST],
 ) -> Day {
-    if input.ended {
-        return recording::take(day, memory::part(line, 0, input.last), image, list);
+    if let Some(n) = input.ended {
+        return recording::take(day, memory::part(line, 0, n), image, list);
     }
     day
 }
@@ -62,7 +62,7 @@ fn told<R: Env + Files + Print>(rt: &R, day: Day, image: &[u8; IMAGE], list: &[u
         return;
     }
     if day.full {
-        messages::numbered(rt, b"refused ", answer::BLOCK_ROOM as u64);
+        messages::numbered(rt, b"refused ", u64::from(answer::BLOCK_ROOM));
         return;
     }
     let mut trace = [0u8; TRACE];

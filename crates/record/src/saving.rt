@@ -14,10 +14,7 @@ pub(crate) const LIST: usize = 2064378;
 
 // The bytes of so many blocks, as far as there is room.
 fn size(blocks: usize) -> usize {
-    if blocks <= 4096 {
-        return 512 * blocks;
-    }
-    TRACE
+    512 * blocks.min(TRACE / 512)
 }
 
 // Writes the trace into its room, makes both files and says so.
@@ -28,24 +25,22 @@ pub(crate) fn saved<R: Env + Files + Print>(
     list: &[u8; LIST],
     trace: &mut [u8; TRACE],
 ) {
-    let written = trace_writing::write(
-        day.base,
-        day.window,
-        memory::part(list, 0, day.bytes),
-        trace,
-    );
-    if written.number != 0 {
-        messages::numbered(rt, b"refused ", written.number as u64);
-        return;
-    }
+    let events = memory::part(list, 0, day.bytes);
+    let blocks = match trace_writing::write(day.base, day.window, events, trace) {
+        Ok(blocks) => blocks,
+        Err(refusal) => {
+            messages::numbered(rt, b"refused ", u64::from(u32::from(refusal)));
+            return;
+        }
+    };
     let failed = target_files::make_both(
         rt,
         1,
-        memory::part(trace, 0, size(written.blocks)),
+        memory::part(trace, 0, size(blocks)),
         2,
         memory::part(image, 0, day.window as usize),
     );
     if failed == 0 {
-        messages::counted(rt, b"recorded ", day.events, written.blocks as u64);
+        messages::counted(rt, b"recorded ", day.events, blocks as u64);
     }
 }

@@ -5,8 +5,7 @@ use mathlib.Core.Bool.{true, false}
 use mathlib.Core.List.{List}
 use lib.ListN.{take, drop}
 use Rattle.rules.proofs.Choices.{if_yes, if_no}
-use Rattle.trace.specs.declared.Summary.{Summary}
-use Rattle.trace.specs.Reading.{refused, reading_of, read}
+use Rattle.trace.specs.Reading.{Summary, refused, reading_of, read}
 use Rattle.recorded_days.specs.declared.Loaded.{Loaded}
 use Rattle.recorded_days.specs.Read.{read_loaded}
 

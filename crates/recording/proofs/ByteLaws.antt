@@ -1,40 +1,20 @@
 -- The bytes of a day, as the code stores them. Assumes nothing.
 use Prim.Native.Nat.{ℕ, ◌≤◌, ◌<◌}
 use mathlib.Core.Path.{◌≡◌, ap, ◌∙◌}
-use mathlib.Core.Bool.{Bool, true, false, not}
+use mathlib.Core.Bool.{true}
 use mathlib.Core.List.{List}
 use borrow.Author.Tests.{eq-eqb, ne_eqb, lt-ltb, le-ltb}
 use lib.ListN.{length, take}
-use Rattle.rules.proofs.Choices.{said_yes, said_no}
-use Rattle.memory.specs.Memory.{store}
-use Rattle.window.specs.Window.{in_window, offset}
 use Rattle.event.specs.Event.{frame, send, bytes_of}
 use Rattle.appending.specs.Put.{put_of, put}
 use Rattle.forms.specs.Pairs.{named, decoded, decode}
 use Rattle.forms.proofs.NamedLaws.{named_is}
 use Rattle.recording.specs.declared.Day.{Day}
 use Rattle.recording.specs.Day.{more, failed}
-use Rattle.recording.specs.Bytes.{Poked, poked, may_poke, poke, listed, place, happened, append, send_into}
+use Rattle.recording.specs.Bytes.{Poked, poke, listed, place, happened, append, send_into}
 use Rattle.recording.proofs.DayLaws.{grown_is, overflown_is}
 
 -- ---- the image
-
-module _ (d : Day) (address : ℕ) where
-  pub poke_late : (n : ℕ) → (d.events ≡ 0 → ⊥) → false ≡ may_poke d address n
-  poke_late n h = rw (ne_eqb d.events 0 h)
-
-  pub poke_early : (n : ℕ) (r : Bool) → d.events ≡ 0 → r ≡ in_window d.base d.window address n → r ≡ may_poke d address n
-  poke_early n r h e = rw (eq-eqb d.events 0 h) e
-
-  module _ (m s : List ℕ) (may : Bool) (e : may ≡ may_poke d address (length s)) where
-    pub poke_wrong : (r : Day) → not may ≡ true → r ≡ failed d → poked r m ≡ poke d m address s
-    unfolding poke
-    poke_wrong r n f = rw (said_no (may_poke d address (length s)) may e n) (λ j. record { day = f j; image = m })
-
-    pub poke_stored : (m' : List ℕ) (from : ℕ) → not may ≡ false → from ≡ offset d.base address → m' ≡ store m from s → poked d m' ≡ poke d m address s
-    unfolding poke
-    poke_stored m' from n o k =
-        rw (said_yes (may_poke d address (length s)) may e n, ← o) (λ j. record { day = d; image = k j })
 
 -- of the bytes that a word names
 pub poke_named : (d : Day) (address : ℕ) (m word out out' s : List ℕ) (n : ℕ) (x : Poked) → 2048 ≡ length out → decoded n out' ≡ decode word out

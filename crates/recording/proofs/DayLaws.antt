@@ -1,12 +1,10 @@
 -- How a day goes on, as the code has it. Assumes nothing.
 use Prim.Native.Nat.{ℕ, ◌+◌, ◌-◌, ◌^◌, ◌≤◌, ◌<◌}
 use mathlib.Core.Path.{◌≡◌}
-use mathlib.Core.Bool.{Bool, true, false, not}
+use mathlib.Core.Bool.{true}
 use borrow.Author.Tests.{lt-ltb, le-ltb}
-use Rattle.rules.proofs.Choices.{said_yes, said_no}
-use Rattle.window.specs.Window.{window_allowed}
 use Rattle.recording.specs.declared.Day.{Day}
-use Rattle.recording.specs.Day.{more, counted, failed, opened, grown, overflown, new}
+use Rattle.recording.specs.Day.{more, counted, grown, overflown}
 
 pub one_more : (n : ℕ) → n < 2 ^ 64 - 1 → n + 1 ≡ more n
 unfolding more
@@ -28,12 +26,3 @@ module _ (d : Day) where
   pub overflown_is : (n : ℕ) → n ≡ more d.events
       → record { begun = d.begun; base = d.base; window = d.window; bytes = d.bytes; events = n; lines = d.lines; wrong = d.wrong; full = true } ≡ overflown d
   overflown_is n e = λ j. record { begun = d.begun; base = d.base; window = d.window; bytes = d.bytes; events = e j; lines = d.lines; wrong = d.wrong; full = true }
-
-  module _ (base window : ℕ) (allowed : Bool) (e : allowed ≡ window_allowed base window) where
-    pub new_refused : (r : Day) → not allowed ≡ true → r ≡ failed d → r ≡ new d base window
-    unfolding new
-    new_refused r n f = rw (said_no (window_allowed base window) allowed e n) f
-
-    pub new_allowed : not allowed ≡ false → opened d base window ≡ new d base window
-    unfolding new
-    new_allowed n = rw (said_yes (window_allowed base window) allowed e n)

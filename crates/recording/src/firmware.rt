@@ -5,6 +5,7 @@ ghost use Rattle.recording.specs.Bytes.{poked, may_poke, poke};
 
 use crate::Day;
 use forms::pairs;
+use window::Window;
 
 // Room for the bytes that a line names.
 pub(crate) fn blank() -> [u8; 2048]
@@ -13,17 +14,25 @@ pub(crate) fn blank() -> [u8; 2048]
     [0; 2048]
 }
 
+// The window of the day.
+fn window_of(day: Day) -> Window
+    ensures { result ≡ record { base = day.base; length = day.window } }
+{
+    Window {
+        base: day.base,
+        length: day.window,
+    }
+}
+
 // Whether the firmware may write n bytes from an address on.
 fn may_poke(day: Day, address: u32, n: u32) -> bool
     ensures { result ≡ may_poke day address n }
 {
-    if day.events != 0 {
-        return false;
-    }
-    window::in_window(day.base, day.window, address, n)
+    day.events == 0 && window_of(day).holds(address, n)
 }
 
 // Writes them.
+#[tactic(auto, unfolding(crate::specs::Bytes::poke))]
 fn stored(day: Day, address: u32, s: &[u8], image: &mut [u8]) -> Day
     requires { length s.now ≤ 2048 }
     ensures { poked result image.new ≡ poke day image.old address s.now }
@@ -31,7 +40,8 @@ fn stored(day: Day, address: u32, s: &[u8], image: &mut [u8]) -> Day
     if !may_poke(day, address, s.len() as u32) {
         return crate::failed(day);
     }
-    let from = window::offset(day.base, address);
+    let window = window_of(day);
+    let from = window.offset(address);
     memory::store(image, from, s);
     day
 }

@@ -10,6 +10,7 @@ ghost use Rattle.recording.specs.Day.{begin, more, counted, failed, new};
 ghost use Rattle.recording.specs.Recording.{recorded, first, later, take};
 
 use steps::Step;
+use window::Window;
 
 // A recorded day so far. Its bytes stand in the caller's image and event list.
 #[derive(Clone, Copy)]
@@ -74,10 +75,15 @@ pub(crate) fn failed(mut day: Day) -> Day
 }
 
 // The window of `new`.
+#[tactic(auto, unfolding(crate::specs::Day::new))]
 fn new(mut day: Day, base: u32, window: u32) -> Day
     ensures { result ≡ new day base window }
 {
-    if !window::window_allowed(base, window) {
+    let seen = Window {
+        base,
+        length: window,
+    };
+    if !seen.allowed() {
         return failed(day);
     }
     day.begun = true;

@@ -21,23 +21,11 @@ pub(crate) fn step_of(command: Command) -> Step
 {
     match command {
         Command::New => Step::New,
-        Command::Lend => Step::Other,
-        Command::Read => Step::Other,
+        Command::Poke => Step::Poke,
         Command::Write => Step::Write,
-        Command::Line => Step::Other,
         Command::Grant => Step::Grant,
         Command::Frame => Step::Frame,
-        Command::Burst => Step::Other,
         Command::Send => Step::Send,
-        Command::Run => Step::Other,
-        Command::Tick => Step::Other,
-        Command::Show => Step::Other,
-        Command::Ring => Step::Other,
-        Command::Poke => Step::Poke,
-        Command::Peek => Step::Other,
-        Command::Check => Step::Other,
-        Command::State => Step::Other,
-        Command::Counters => Step::Other,
-        Command::Error => Step::Other,
+        _ => Step::Other,
     }
 }

@@ -1,10 +1,12 @@
-// A register write: its number, and the registers that it leaves.
+// A register write: the registers that it leaves, or its refusal.
 #![tactic(auto)]
 
-ghost use Rattle.std.specs.Prelude.{◌≡◌};
-ghost use Rattle.register_write.specs.Write.{cleared, stored, write_number, write};
+ghost use Rattle.std.specs.Prelude.{◌≡◌, Some};
+ghost use Rattle.answer.specs.Refusals.{number_of};
+ghost use Rattle.register_write.specs.Write.{cleared, stored, write_number, changed, write};
 
-use registers::{Change, Register, Registers};
+use answer::Refusal;
+use registers::{Register, Registers};
 
 // A status word with the bits cleared that are written as 1.
 fn cleared(isr: u32, v: u32) -> u32
@@ -14,116 +16,43 @@ fn cleared(isr: u32, v: u32) -> u32
 }
 
 // The registers with what is kept of a value.
-fn stored(r: Registers, register: Register, v: u32) -> Registers
-    ensures { result ≡ stored r register v }
+fn stored(mut r: Registers, register: Register, v: u32) -> Registers
+    ensures { result ≡ stored r (Some register) v }
 {
-    let mut next = r;
-    let rx = r.rx;
-    let tx = r.tx;
     match register {
-        Register::Ier => {
-            next.ier = v;
-            next
-        }
-        Register::Isr => {
-            let isr = cleared(r.isr, v);
-            next.isr = isr;
-            next
-        }
-        Register::RxStart => {
-            let e = engine_write::start_written(rx, v);
-            next.rx = e;
-            next
-        }
-        Register::RxNext => {
-            let e = engine_write::next_written(rx, v);
-            next.rx = e;
-            next
-        }
-        Register::TxStart => {
-            let e = engine_write::start_written(tx, v);
-            next.tx = e;
-            next
-        }
-        Register::TxNext => {
-            let e = engine_write::next_written(tx, v);
-            next.tx = e;
-            next
-        }
-        Register::TxTimeout => {
-            next.txtor = v;
-            next
-        }
-        Register::Mcr => {
-            next.filter.mcr = v;
-            next
-        }
-        Register::Mah => {
-            next.filter.mah = v;
-            next
-        }
-        Register::Mal => {
-            next.filter.mal = v;
-            next
-        }
-        Register::Mcha => {
-            next.filter.mcha = v;
-            next
-        }
-        Register::Mcla => {
-            next.filter.mcla = v;
-            next
-        }
-        Register::Unmodelled => next,
+        Register::Ier => r.ier = v,
+        Register::Isr => r.isr = cleared(r.isr, v),
+        Register::RxStart => r.rx = engine_write::start_written(r.rx, v),
+        Register::RxNext => r.rx = engine_write::next_written(r.rx, v),
+        Register::TxStart => r.tx = engine_write::start_written(r.tx, v),
+        Register::TxNext => r.tx = engine_write::next_written(r.tx, v),
+        Register::TxTimeout => r.txtor = v,
+        Register::Mcr => r.filter.mcr = v,
+        Register::Mah => r.filter.mah = v,
+        Register::Mal => r.filter.mal = v,
+        Register::Mcha => r.filter.mcha = v,
+        Register::Mcla => r.filter.mcla = v,
+    }
+    r
+}
+
+// A next-descriptor register is not written while its engine runs: the refusal 15.
+fn writing(receiving: bool, sending: bool, register: Register) -> Result<(), Refusal>
+    ensures { number_of result ≡ write_number receiving sending (Some register) }
+{
+    match register {
+        Register::RxNext if receiving => Err(Refusal::EngineRuns),
+        Register::TxNext if sending => Err(Refusal::EngineRuns),
+        _ => Ok(()),
     }
 }
 
-// The refusals, 2 and 15, or 0.
-fn write_number(receiving: bool, sending: bool, register: Register) -> u32
-    ensures { result ≡ write_number receiving sending register }
+// A register write, or its refusal by 2 or 15.
+#[tactic(auto, unfolding(crate::specs::Write::write))]
+pub fn write(r: Registers, offset: u32, v: u32) -> Result<Registers, Refusal>
+    ensures { changed r result ≡ write r offset v }
 {
-    match register {
-        Register::Ier => answer::DONE,
-        Register::Isr => answer::DONE,
-        Register::RxStart => answer::DONE,
-        Register::RxNext => if receiving {
-            answer::ENGINE_RUNS
-        } else {
-            answer::DONE
-        },
-        Register::TxStart => answer::DONE,
-        Register::TxNext => if sending {
-            answer::ENGINE_RUNS
-        } else {
-            answer::DONE
-        },
-        Register::TxTimeout => answer::DONE,
-        Register::Mcr => answer::DONE,
-        Register::Mah => answer::DONE,
-        Register::Mal => answer::DONE,
-        Register::Mcha => answer::DONE,
-        Register::Mcla => answer::DONE,
-        Register::Unmodelled => answer::REGISTER_NOT_MODELLED,
-    }
-}
-
-// A register write.
-pub fn write(r: Registers, offset: u32, v: u32) -> Change
-    ensures { result ≡ write r offset v }
-{
-    let register = Register::at(offset);
-    let rx = r.rx;
-    let tx = r.tx;
-    let number = write_number(rx.running, tx.running, register);
-    if number != answer::DONE {
-        return Change {
-            number,
-            registers: r,
-        };
-    }
-    let kept = writable::kept(register, v);
-    Change {
-        number: answer::DONE,
-        registers: stored(r, register, kept),
-    }
+    let register = Register::at(offset).ok_or(Refusal::RegisterNotModelled)?;
+    writing(r.rx.running, r.tx.running, register)?;
+    Ok(stored(r, register, writable::kept(Some(register), v)))
 }

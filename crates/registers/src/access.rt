@@ -1,49 +1,30 @@
 // Which register stands at an offset, and a register read.
-ghost use Rattle.std.specs.Prelude.{◌≡◌};
-ghost use Rattle.registers.specs.Access.{register_at, value_of, read_number, read};
+ghost use Rattle.std.specs.Prelude.{◌≡◌, Some};
+ghost use Rattle.registers.specs.Access.{register_at, value_of, found, read};
 
-use crate::{Found, Register, Registers};
+use crate::{Register, Registers};
+use answer::Refusal;
 
 impl Register {
-    // The register at an offset.
-    pub fn at(offset: u32) -> Register
+    // The register at an offset, if one is modelled there.
+    #[tactic(auto, unfolding(crate::specs::Access::register_at))]
+    pub fn at(offset: u32) -> Option<Register>
         ensures { result ≡ register_at offset }
     {
         match offset {
-            Registers::IER => Register::Ier,
-            Registers::ISR => Register::Isr,
-            Registers::RXSTR => Register::RxStart,
-            Registers::RXNDAR => Register::RxNext,
-            Registers::TXSTR => Register::TxStart,
-            Registers::TXNDAR => Register::TxNext,
-            Registers::TXTOR => Register::TxTimeout,
-            Registers::MCR => Register::Mcr,
-            Registers::MAH => Register::Mah,
-            Registers::MAL => Register::Mal,
-            Registers::MCHA => Register::Mcha,
-            Registers::MCLA => Register::Mcla,
-            _ => Register::Unmodelled,
-        }
-    }
-
-    // The refusal of a read, 2, or 0.
-    fn read_number(self) -> u32
-        ensures { result ≡ read_number self }
-    {
-        match self {
-            Register::Ier => answer::DONE,
-            Register::Isr => answer::DONE,
-            Register::RxStart => answer::DONE,
-            Register::RxNext => answer::DONE,
-            Register::TxStart => answer::DONE,
-            Register::TxNext => answer::DONE,
-            Register::TxTimeout => answer::DONE,
-            Register::Mcr => answer::DONE,
-            Register::Mah => answer::DONE,
-            Register::Mal => answer::DONE,
-            Register::Mcha => answer::DONE,
-            Register::Mcla => answer::DONE,
-            Register::Unmodelled => answer::REGISTER_NOT_MODELLED,
+            Registers::IER => Some(Register::Ier),
+            Registers::ISR => Some(Register::Isr),
+            Registers::RXSTR => Some(Register::RxStart),
+            Registers::RXNDAR => Some(Register::RxNext),
+            Registers::TXSTR => Some(Register::TxStart),
+            Registers::TXNDAR => Some(Register::TxNext),
+            Registers::TXTOR => Some(Register::TxTimeout),
+            Registers::MCR => Some(Register::Mcr),
+            Registers::MAH => Some(Register::Mah),
+            Registers::MAL => Some(Register::Mal),
+            Registers::MCHA => Some(Register::Mcha),
+            Registers::MCLA => Some(Register::Mcla),
+            _ => None,
         }
     }
 }
@@ -51,36 +32,30 @@ impl Register {
 impl Registers {
     // What a register reads as.
     fn value_of(self, register: Register) -> u32
-        ensures { result ≡ value_of self register }
+        ensures { result ≡ value_of self (Some register) }
     {
-        let filter = self.filter;
-        let rx = self.rx;
-        let tx = self.tx;
         match register {
             Register::Ier => self.ier,
             Register::Isr => self.isr,
-            Register::RxStart => rx.start,
-            Register::RxNext => rx.next,
-            Register::TxStart => tx.start,
-            Register::TxNext => tx.next,
+            Register::RxStart => self.rx.start,
+            Register::RxNext => self.rx.next,
+            Register::TxStart => self.tx.start,
+            Register::TxNext => self.tx.next,
             Register::TxTimeout => self.txtor,
-            Register::Mcr => filter.mcr,
-            Register::Mah => filter.mah,
-            Register::Mal => filter.mal,
-            Register::Mcha => filter.mcha,
-            Register::Mcla => filter.mcla,
-            Register::Unmodelled => 0,
+            Register::Mcr => self.filter.mcr,
+            Register::Mah => self.filter.mah,
+            Register::Mal => self.filter.mal,
+            Register::Mcha => self.filter.mcha,
+            Register::Mcla => self.filter.mcla,
         }
     }
 
-    // A register read.
-    pub fn read(self, offset: u32) -> Found
-        ensures { result ≡ read self offset }
+    // A register read, or its refusal by 2.
+    #[tactic(auto, unfolding(crate::specs::Access::read))]
+    pub fn read(self, offset: u32) -> Result<u32, Refusal>
+        ensures { found result ≡ read self offset }
     {
-        let register = Register::at(offset);
-        Found {
-            number: register.read_number(),
-            value: self.value_of(register),
-        }
+        let register = Register::at(offset).ok_or(Refusal::RegisterNotModelled)?;
+        Ok(self.value_of(register))
     }
 }

@@ -20,8 +20,8 @@ pub struct Registers {
     pub txtor: u32,
 }
 
-// The modelled registers, and one case for every other offset.
-#[derive(Clone, Copy)]
+// The modelled registers.
+#[derive(Clone, Copy, Debug, PartialEq, Eq)]
 pub enum Register {
     Ier,
     Isr,
@@ -35,7 +35,6 @@ pub enum Register {
     Mal,
     Mcha,
     Mcla,
-    Unmodelled,
 }
 
 // A number of the table, and the registers that a call leaves.
@@ -43,13 +42,6 @@ pub enum Register {
 pub struct Change {
     pub number: u32,
     pub registers: Registers,
-}
-
-// A number of the table, and the value read.
-#[derive(Clone, Copy)]
-pub struct Found {
-    pub number: u32,
-    pub value: u32,
 }
 
 impl Registers {
@@ -166,6 +158,7 @@ impl Registers {
     }
 
     // The interrupt line is high.
+    #[tactic(auto, unfolding(crate::specs::Registers::interrupt_line))]
     pub fn interrupt_line(self) -> bool
         ensures { result ≡ interrupt_line self }
     {

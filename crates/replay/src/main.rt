@@ -5,6 +5,7 @@ mod day;
 
 use recorded_days::Loaded;
 use std::rt::{Env, Files};
+use stream::Refused;
 use trace::Summary;
 
 // A trace of 4,096 blocks.
@@ -21,12 +22,16 @@ fn load<R: Env + Files + Print>(
     rt: &R,
     trace: &mut [u8; TRACE],
     memory: &mut [u8; MEMORY],
-) -> Loaded {
+) -> Option<Loaded> {
     recorded_days::load(rt, trace, memory)
 }
 
 // What the trace says, and its events in one piece.
-fn read(loaded: Loaded, trace: &[u8; TRACE], events: &mut [u8; EVENTS]) -> Summary {
+fn read(
+    loaded: Loaded,
+    trace: &[u8; TRACE],
+    events: &mut [u8; EVENTS],
+) -> Result<Summary, Refused> {
     recorded_days::read(loaded, trace, events)
 }
 
@@ -38,20 +43,17 @@ fn first(events: &[u8; EVENTS], n: usize) -> &[u8] {
 // Replays a day, or says why not.
 fn replay<P: Print>(rt: &P, loaded: Loaded, trace: &[u8; TRACE], memory: &mut [u8; MEMORY]) {
     let mut events = [0u8; EVENTS];
-    let summary = read(loaded, trace, &mut events);
-    if summary.number != answer::DONE {
-        day::refused(rt, summary.number, summary.block);
-        return;
+    match read(loaded, trace, &mut events) {
+        Ok(summary) => day::whole_day(
+            rt,
+            summary.base,
+            summary.window,
+            first(&events, summary.bytes),
+            memory,
+            loaded.memory,
+        ),
+        Err(refused) => day::refused(rt, u32::from(refused.refusal), refused.block),
     }
-    let n = summary.bytes;
-    day::whole_day(
-        rt,
-        summary.base,
-        summary.window,
-        first(&events, n),
-        memory,
-        loaded.memory,
-    );
 }
 
 fn main(rt: HostRuntime) {
@@ -61,8 +63,7 @@ fn main(rt: HostRuntime) {
     }
     let mut trace = [0u8; TRACE];
     let mut memory = [0u8; MEMORY];
-    let loaded = load(&rt, &mut trace, &mut memory);
-    if loaded.ok {
+    if let Some(loaded) = load(&rt, &mut trace, &mut memory) {
         replay(&rt, loaded, &trace, &mut memory);
     }
 }

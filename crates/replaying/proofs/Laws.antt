@@ -9,20 +9,13 @@ use Rattle.rules.proofs.Choices.{if_yes, if_no}
 use Rattle.memory.specs.Memory.{store}
 use Rattle.memory.proofs.Stores.{part_back}
 use Rattle.stream.specs.Stream.{event_bytes}
-use Rattle.trace.specs.declared.Summary.{Summary}
-use Rattle.trace.specs.Reading.{look}
+use Rattle.trace.specs.Reading.{Summary, look}
 use Rattle.trace.proofs.Good.{look_given}
 use Rattle.enet.specs.declared.Enet.{Enet}
 use Rattle.enet.specs.declared.Answered.{Answered}
-use Rattle.enet.specs.Device.{new, reset}
+use Rattle.enet.specs.Device.{new}
 use Rattle.playback.specs.Playing.{bench_of, play_into, played as played_of}
-use Rattle.replaying.specs.declared.Replayed.{Replayed}
-use Rattle.replaying.specs.Replay.{replaying, refusal, replay_number, replay}
-
--- a refusal, of a device that is reset
-pub refusal_is : (number block : ℕ) (d : Enet) → d ≡ reset
-    → ◌≡◌ {A = Replayed} (record { number = number; block = block; bytes = 0; events = 0; device = d }) (refusal number block)
-refusal_is number block d e = rw e
+use Rattle.replaying.specs.Replay.{Replayed, replaying, refusal, replay_number, replay}
 
 -- ---- its number: the reading's, then 24
 

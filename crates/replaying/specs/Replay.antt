@@ -1,14 +1,31 @@
 -- 02, Wish 4: "Replay refuses as reading does, or if the lent answer list is short, with row 1's state; else answers, state,
 -- memory and output are those of direct calls on a new bench of its window, lent the same memory and output." Assumes nothing.
-use Rattle.std.specs.Prelude.{ℕ, List, eqb, ltb, length}
+use Rattle.std.specs.Prelude.{ℕ, List, Result, Ok, Err, eqb, ltb, length}
 use Rattle.std.specs.Prelude.{if◌then◌else◌}
+use Rattle.answer.specs.Refusals.{refusal_number}
 use Rattle.memory.specs.Memory.{store}
 use Rattle.event.specs.Walk.{walk}
 use Rattle.stream.specs.Stream.{event_bytes}
 use Rattle.trace.specs.Reading.{look}
+use Rattle.enet.specs.declared.Enet.{Enet}
 use Rattle.enet.specs.Device.{new, reset}
 use Rattle.playback.specs.Playing.{play, bench_of}
-use Rattle.replaying.specs.declared.Replayed.{Replayed}
+use Rattle.replaying.specs.declared.Replayed.{Replayed as Day}
+use Rattle.replaying.specs.declared.Refused.{Refused}
+
+-- what a replay answers: 0, how many bytes its events are, how many events, and the device behind them; or the number of its
+-- refusal, with the bad block where it is one's
+pub record Replayed : Type 0 where
+  pub number : ℕ
+  pub block : ℕ
+  pub bytes : ℕ
+  pub events : ℕ
+  pub device : Enet
+
+-- as the code answers it
+abbrev pub replayed_of : Result Day Refused → Replayed
+replayed_of (Ok d) = record { number = 0; block = 0; bytes = d.bytes; events = d.events; device = d.device }
+replayed_of (Err r) = record { number = refusal_number r.refusal; block = r.block; bytes = 0; events = 0; device = r.device }
 
 -- what a replay gives: its number, with the bad block where it is a block's, the bytes and the number of the events, the device;
 -- and the room, the memory, the output and the answer list that it leaves

@@ -2,32 +2,45 @@
 #![tactic(auto)]
 
 ghost use Rattle.std.specs.Prelude.{◌≡◌};
-ghost use Rattle.replaying.specs.Replay.{replaying, refusal, replay};
+ghost use Rattle.enet.specs.Device.{reset};
+ghost use Rattle.replaying.specs.Replay.{replaying, replayed_of, replay};
 
+use answer::Refusal;
 use enet::Enet;
 
-// What a replay gave: 0, how many bytes its events are, how many events, and the device behind them; or the number of its
-// refusal, with the bad block where it is one's.
+// A day that was replayed: how many bytes its events are, how many events, and the device behind them.
 #[derive(Clone, Copy)]
 pub struct Replayed {
-    pub number: u32,
-    pub block: usize,
     pub bytes: usize,
     pub events: usize,
     pub device: Enet,
 }
 
-// A replay that is refused has no device: the reset state, over no window.
-fn refused(number: u32, block: usize) -> Replayed
-    ensures { result ≡ refusal number block }
+// Why a replay is refused, with the bad block where it is one's, else 0. It has no device: the reset state, over no window.
+#[derive(Clone, Copy)]
+pub struct Refused {
+    pub refusal: Refusal,
+    pub block: usize,
+    pub device: Enet,
+}
+
+// A refusal of a replay.
+fn refuse(refusal: Refusal, block: usize) -> Refused
+    ensures { result ≡ record { refusal = refusal; block = block; device = reset } }
 {
-    let device = Enet::reset();
-    Replayed {
-        number,
+    Refused {
+        refusal,
         block,
-        bytes: 0,
-        events: 0,
-        device,
+        device: Enet::reset(),
+    }
+}
+
+// It is refused as reading is.
+impl From<stream::Refused> for Refused {
+    ghost from_gives = { λ unread refused. refused ≡ record { refusal = unread.refusal; block = unread.block; device = reset } };
+
+    fn from(unread: stream::Refused) -> Refused {
+        refuse(unread.refusal, unread.block)
     }
 }
 
@@ -38,25 +51,20 @@ pub fn replay(
     memory: &mut [u8],
     output: &mut [u8],
     answers: &mut [u32],
-) -> Replayed
-    ensures { replaying result room.new memory.new output.new answers.new ≡ replay trace.now room.old memory.old output.old answers.old }
+) -> Result<Replayed, Refused>
+    ensures { replaying (replayed_of result) room.new memory.new output.new answers.new ≡ replay trace.now room.old memory.old output.old answers.old }
 {
-    let summary = trace::look(trace, room.len());
-    if summary.number != answer::DONE {
-        return refused(summary.number, summary.block);
-    }
+    let summary = trace::look(trace, room.len())?;
     if answers.len() < summary.events {
-        return refused(answer::ANSWERS_SHORT, summary.block);
+        return Err(refuse(Refusal::AnswersShort, 0));
     }
     stream::copy(trace, room);
     let new = Enet::new(summary.base, summary.window);
     let events = memory::part(room, 0, summary.bytes);
     let device = playback::play(new.device, memory, output, events, answers);
-    Replayed {
-        number: answer::DONE,
-        block: 0,
+    Ok(Replayed {
         bytes: summary.bytes,
         events: summary.events,
         device,
-    }
+    })
 }

@@ -1,12 +1,11 @@
 -- Laws of the lines: each is its fields one behind the other. Assumes nothing.
 use Prim.Native.Nat.{ℕ}
 use mathlib.Core.Path.{◌≡◌}
-use mathlib.Core.Bool.{Bool, true, false}
 use mathlib.Core.List.{List, ◌++◌}
 use Rattle.text.specs.Text.{Text, written, put}
 use Rattle.fields.specs.Fields.{number, value}
 use Rattle.text.proofs.Laws.{put_then}
-use Rattle.replies.specs.Replies.{newline, said, either, numbered, valued}
+use Rattle.replies.specs.Replies.{newline, said, numbered, valued}
 
 -- the text before a line, the name that it begins with, and what the code has in the end
 module _ (t t₁ : List ℕ) (at end₁ : ℕ) (name : List ℕ) (x : Text) (e₁ : written end₁ t₁ ≡ put t at name) where
@@ -26,11 +25,3 @@ module _ (t t₁ : List ℕ) (at end₁ : ℕ) (name : List ℕ) (x : Text) (e�
     pub valued_is : (v : ℕ) → written end₂ t₂ ≡ put t₁ end₁ (value v) → x ≡ put t₂ end₂ newline → x ≡ put t at (valued name v)
     unfolding valued
     valued_is v e₂ h = put_then t t₂ at end₂ (name ++ value v) newline x (two (value v) e₂) h
-
--- one of two
-module _ (t : List ℕ) (at : ℕ) (a b : List ℕ) (holds : Bool) (x : Text) where
-  pub either_first : holds ≡ true → x ≡ put t at (said a) → x ≡ put t at (either holds a b)
-  either_first e h = rw e h
-
-  pub either_second : holds ≡ false → x ≡ put t at (said b) → x ≡ put t at (either holds a b)
-  either_second e h = rw e h

@@ -17,10 +17,7 @@ pub fn said(text: &mut [u8], at: usize, words: &[u8]) -> usize
 pub fn either(text: &mut [u8], at: usize, holds: bool, a: &[u8], b: &[u8]) -> usize
     ensures { written result text.new ≡ put text.old at (either holds a.now b.now) }
 {
-    if holds {
-        return said(text, at, a);
-    }
-    said(text, at, b)
+    said(text, at, if holds { a } else { b })
 }
 
 // A name and a number.

@@ -16,9 +16,9 @@ module _ (t t₁ : List ℕ) (at end₁ : ℕ) (name : List ℕ) (x : Text) (e�
     unfolding held
     held_is s e₂ h = put_then t t₂ at end₂ (name ++ bytes s) newline x (two t t₁ at end₁ name x e₁ t₂ end₂ (bytes s) e₂) h
 
-    module _ (n : ℕ) (e₂ : written end₂ t₂ ≡ put t₁ end₁ (number n)) (t₃ : List ℕ) (end₃ : ℕ) where
+    module _ (n n' : ℕ) (q : n' ≡ n) (e₂ : written end₂ t₂ ≡ put t₁ end₁ (number n')) (t₃ : List ℕ) (end₃ : ℕ) where
       three : (a : List ℕ) → written end₃ t₃ ≡ put t₂ end₂ a → written end₃ t₃ ≡ put t at (name ++ number n ++ a)
-      three a e₃ = put_then t t₂ at end₂ (name ++ number n) a (written end₃ t₃) (two t t₁ at end₁ name x e₁ t₂ end₂ (number n) e₂) e₃
+      three a e₃ = put_then t t₂ at end₂ (name ++ number n) a (written end₃ t₃) (two t t₁ at end₁ name x e₁ t₂ end₂ (number n) (rw q at e₂)) e₃
 
       pub read_is : (v : ℕ) → written end₃ t₃ ≡ put t₂ end₂ (value v) → x ≡ put t₃ end₃ newline → x ≡ put t at (read name n v)
       unfolding read

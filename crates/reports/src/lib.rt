@@ -10,7 +10,7 @@ pub fn read(text: &mut [u8], at: usize, name: &[u8], n: u32, v: u32) -> usize
     ensures { written result text.new ≡ put text.old at (read name.now n v) }
 {
     let end = text::put(text, at, name);
-    let end = fields::number(text, end, n as u64);
+    let end = fields::number(text, end, u64::from(n));
     let end = fields::value(text, end, v);
     text::character(text, end, b'\n')
 }
@@ -29,7 +29,7 @@ pub fn shown(text: &mut [u8], at: usize, name: &[u8], n: u32, s: &[u8]) -> usize
     ensures { written result text.new ≡ put text.old at (shown name.now n s.now) }
 {
     let end = text::put(text, at, name);
-    let end = fields::number(text, end, n as u64);
+    let end = fields::number(text, end, u64::from(n));
     let end = fields::bytes(text, end, s);
     text::character(text, end, b'\n')
 }

@@ -1,18 +1,13 @@
 // A byte looked for in a run of bytes.
 #![tactic(auto)]
 
-ghost use Rattle.std.specs.Prelude.{◌≡◌, ◌≤◌, length};
+ghost use Rattle.std.specs.Prelude.{◌≡◌, ◌<◌, length, unwrap_or, IfSome};
 ghost use Rattle.scanning.specs.Scanning.{index_of};
 
-// The index of the first byte that is b, or the length where there is none.
-pub fn find(s: &[u8], b: u8) -> usize
-    ensures index { result ≡ index_of b s.now }
-    ensures within { result ≤ length s.now }
+// The index of the first byte that is b, if there is one.
+pub fn find(s: &[u8], b: u8) -> Option<usize>
+    ensures index { unwrap_or result (length s.now) ≡ index_of b s.now }
+    ensures within { IfSome result (λ i. i < length s.now) }
 {
-    for (i, x) in s.iter().enumerate() {
-        if *x == b {
-            return i;
-        }
-    }
-    s.len()
+    s.iter().position(|x| *x == b)
 }

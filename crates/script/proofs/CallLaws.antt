@@ -6,8 +6,7 @@ use Prim.Native.Nat.{ℕ, ◌≤◌, ◌<◌}
 use borrow.Author.Tests.{lt-ltb, le-ltb}
 use lib.ListN.{length}
 use Rattle.rules.proofs.Choices.{said_not}
-use Rattle.forms.specs.declared.numbers.Number.{Number}
-use Rattle.forms.specs.declared.numbers.Number.TheVariants.{Is, Wrong}
+use Rattle.std.specs.Prelude.{Option, Some, None}
 use Rattle.script.specs.declared.Command.{Command}
 use Rattle.script.specs.declared.Command.TheVariants.{Burst}
 use Rattle.script.specs.declared.Call.{Call}
@@ -19,29 +18,29 @@ use Rattle.words.specs.Words.{characters, is, spaced, first, rest}
 -- ---- a command with its numbers
 
 module _ (command : Command) where
-  pub given_first : (a b : Number) (r : Call) → a ≡ Wrong → r ≡ no_call → r ≡ given command a b
+  pub given_first : (a b : Option ℕ) (r : Call) → a ≡ None → r ≡ no_call → r ≡ given command a b
   unfolding given
   given_first a b r e h = rw e h
 
-  pub given_second : (a b : Number) (x : ℕ) (r : Call) → a ≡ Is x → b ≡ Wrong → r ≡ no_call → r ≡ given command a b
+  pub given_second : (a b : Option ℕ) (x : ℕ) (r : Call) → a ≡ Some x → b ≡ None → r ≡ no_call → r ≡ given command a b
   unfolding given
   given_second a b x r e k h = rw (e, k) h
 
-  pub given_both : (a b : Number) (x y : ℕ) → a ≡ Is x → b ≡ Is y → record { command = command; a = x; b = y } ≡ given command a b
+  pub given_both : (a b : Option ℕ) (x y : ℕ) → a ≡ Some x → b ≡ Some y → record { command = command; a = x; b = y } ≡ given command a b
   unfolding given
   given_both a b x y e k = rw (e, k)
 
   -- the numbers that calls answered
-  pub given_one : (a a' b : Number) (r : Call) → r ≡ given command a b → a ≡ a' → r ≡ given command a' b
+  pub given_one : (a a' b : Option ℕ) (r : Call) → r ≡ given command a b → a ≡ a' → r ≡ given command a' b
   given_one a a' b r h e = rw e at h
 
-  pub given_two : (a a' b b' : Number) (r : Call) → r ≡ given command a b → a ≡ a' → b ≡ b' → r ≡ given command a' b'
+  pub given_two : (a a' b b' : Option ℕ) (r : Call) → r ≡ given command a b → a ≡ a' → b ≡ b' → r ≡ given command a' b'
   given_two a a' b b' r h e k = rw (e, k) at h
 
 -- ---- a line of three words or more
 
 module _ (name a words : List ℕ) (r : Call) (b : Bool) (is-it : b ≡ is name (characters "burst")) where
-  pub more_burst : (x y : Number) → b ≡ true → x ≡ decimal a 66 → y ≡ pairs_behind words → r ≡ given Burst x y → r ≡ with_more name a words
+  pub more_burst : (x y : Option ℕ) → b ≡ true → x ≡ decimal a 66 → y ≡ pairs_behind words → r ≡ given Burst x y → r ≡ with_more name a words
   unfolding with_more
   more_burst x y t e k h = rw (← is-it, t, ← e, ← k) h
 

@@ -1,8 +1,7 @@
 -- The call that a line names: the console's commands, each with its words. Assumes nothing.
 use Rattle.std.specs.Prelude.{ℕ, not, List, ltb, length}
+use Rattle.std.specs.Prelude.{Option, Some, None}
 use Rattle.std.specs.Prelude.{if◌then◌else◌}
-use Rattle.forms.specs.declared.numbers.Number.{Number}
-use Rattle.forms.specs.declared.numbers.Number.TheVariants.{Is, Wrong}
 use Rattle.script.specs.declared.Command.{Command}
 use Rattle.script.specs.declared.Command.TheVariants.{
   New,
@@ -36,14 +35,14 @@ abbrev pub no_call : Call
 no_call = record { command = Error; a = 0; b = 0 }
 
 -- a command with its numbers, if each is right
-unfoldable pub given : Command → Number → Number → Call
-given command Wrong second = no_call
-given command (Is a) Wrong = no_call
-given command (Is a) (Is b) = record { command = command; a = a; b = b }
+unfoldable pub given : Command → Option ℕ → Option ℕ → Call
+given command None second = no_call
+given command (Some a) None = no_call
+given command (Some a) (Some b) = record { command = command; a = a; b = b }
 
 -- the place of a number that a command does not take
-abbrev pub none : Number
-none = Is 0
+abbrev pub none : Option ℕ
+none = Some 0
 
 -- 8 decimal digits: no limit of its own
 abbrev pub any : ℕ

@@ -6,7 +6,7 @@ ghost use Rattle.std.specs.Prelude.{◌≡◌};
 ghost use Rattle.script.specs.Calls.{no_call, given, alone, with_one, with_two, with_more, call_of};
 ghost use Rattle.script.specs.Silent.{silent};
 
-use forms::numbers::{Number, decimal, hexadecimal};
+use forms::numbers::{decimal, hexadecimal};
 use forms::pairs::byte_count;
 use pair_words::pairs_behind;
 use words::{first, is, rest, spaced};
@@ -67,13 +67,13 @@ fn no_call() -> Call
 }
 
 // A command with its numbers, if each is right.
-fn given(command: Command, a: Number, b: Number) -> Call
+fn given(command: Command, a: Option<u32>, b: Option<u32>) -> Call
     ensures { result ≡ given command a b }
 {
-    let Number::Is(x) = a else {
+    let Some(x) = a else {
         return no_call();
     };
-    let Number::Is(y) = b else {
+    let Some(y) = b else {
         return no_call();
     };
     Call {
@@ -87,7 +87,7 @@ fn given(command: Command, a: Number, b: Number) -> Call
 fn alone(name: &[u8]) -> Call
     ensures { result ≡ alone name.now }
 {
-    let none = Number::Is(0);
+    let none = Some(0);
     if is(name, b"line") {
         return given(Command::Line, none, none);
     }
@@ -110,7 +110,7 @@ fn alone(name: &[u8]) -> Call
 fn with_one(name: &[u8], a: &[u8]) -> Call
     ensures { result ≡ with_one name.now a.now }
 {
-    let none = Number::Is(0);
+    let none = Some(0);
     if is(name, b"lend") {
         return given(Command::Lend, decimal(a, MEMORY), none);
     }
@@ -174,10 +174,7 @@ fn with_more(name: &[u8], a: &[u8], words: &[u8]) -> Call
 pub fn silent(line: &[u8]) -> bool
     ensures { result ≡ silent line.now }
 {
-    if line.len() == 0 {
-        return true;
-    }
-    line[0] == b'#'
+    line.is_empty() || line[0] == b'#'
 }
 
 // The call that a line names.

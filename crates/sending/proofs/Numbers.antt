@@ -1,19 +1,18 @@
 -- The ways out of the number of a single send, and its values. Assumes nothing.
-use mathlib.Core.Path.{◌≡◌, sym, ◌∙◌}
+use mathlib.Core.Path.{◌≡◌, refl, sym}
 use mathlib.Core.Bool.{Bool, true, false, not}
 use mathlib.Core.List.{List}
 use Prim.Native.Nat.{ℕ, ◌≤◌, ◌<◌}
 use native.Mathlib.Omega.{arith}
 use borrow.Author.Tests.{le-leb, lt-ltb, le-ltb, ltb-false}
-use lib.Dec.{leb, ltb, eqb}
-use lib.ListN.{length, take, drop, length-take}
+use lib.Dec.{leb, ltb}
+use lib.ListN.{length, drop, length-take}
 use Rattle.std.specs.Prelude.{if◌then◌else◌}
 use Rattle.rules.specs.Choice.{◌otherwise◌}
 use Rattle.rules.proofs.Choices.{by_test, and_yes, or_parts, said_yes, said_no, refused_by, passed_by}
 use Rattle.window.specs.Window.{lent, offset}
 use Rattle.descriptor.specs.Descriptor.{count, start}
-use Rattle.packet_status.specs.PacketStatus.{with_packet_status}
-use Rattle.wire.specs.Wire.{send_length_wrong, wire_fits, wire_put, wire_count}
+use Rattle.wire.specs.Wire.{send_length_wrong, wire_fits}
 use Rattle.chain.specs.Chain.{chain_number}
 use Rattle.chain.proofs.Laws.{by_chain}
 use Rattle.sending.specs.Sending.{send_number, payload_at}
@@ -33,19 +32,19 @@ module _ (base window : ℕ) (running : Bool) (place : ℕ) (m : List ℕ) (room
       unfolding send_number
       stopped_3 r = rw (l, le-ltb room 1518 o, r)
 
-      module _ (r : not running ≡ false) (n : ℕ) (en : n ≡ count base m place) (k : ℕ) (ek : k ≡ chain_number base window m place n) where
-        pub chain_first : (k ≡ 0 → ⊥) → k ≡ send_number base window running place m room
+      module _ (r : not running ≡ false) (n : ℕ) (en : n ≡ count base m place) where
+        pub chain_first : (k : ℕ) → k ≡ chain_number base window m place n → (k ≡ 0 → ⊥) → k ≡ send_number base window running place m room
         unfolding send_number
-        chain_first h = rw (l, le-ltb room 1518 o, r) (refused_by _ _ k (rw en at ek) h)
+        chain_first k ek h = rw (l, le-ltb room 1518 o, r) (refused_by _ _ k (rw en at ek) h)
 
-        module _ (z : k ≡ 0) (w : Bool) (ew : w ≡ send_length_wrong n) where
+        module _ (z : 0 ≡ chain_number base window m place n) (w : Bool) (ew : w ≡ send_length_wrong n) where
           pub length_12 : w ≡ true → 12 ≡ send_number base window running place m room
           unfolding send_number
-          length_12 h = rw (l, le-ltb room 1518 o, r) (passed_by _ _ k 12 (rw en at ek) z (rw (sym (rw en at ew), h)))
+          length_12 h = rw (l, le-ltb room 1518 o, r) (passed_by _ _ 0 12 (rw en at z) refl (rw (sym (rw en at ew), h)))
 
           pub none_0 : w ≡ false → 0 ≡ send_number base window running place m room
           unfolding send_number
-          none_0 h = rw (l, le-ltb room 1518 o, r) (passed_by _ _ k 0 (rw en at ek) z (rw (sym (rw en at ew), h)))
+          none_0 h = rw (l, le-ltb room 1518 o, r) (passed_by _ _ 0 0 (rw en at z) refl (rw (sym (rw en at ew), h)))
 
 pub ruleset ways = (not_lent_11, short_9, stopped_3, chain_first, length_12, none_0, said_yes, said_no)
 
@@ -72,10 +71,10 @@ payload_short base m place w =
     rw (length-take k (drop (offset base (start base m place)) m)) (omega arith)
 
 -- what is sent finds its room in the output
-pub sent_fits : (base window : ℕ) (running : Bool) (place : ℕ) (m out : List ℕ) (n : ℕ)
-    → n ≡ send_number base window running place m (length out) → n ≡ 0 → wire_fits out (payload_at base m place) ≡ true
+pub sent_fits : (base window : ℕ) (running : Bool) (place : ℕ) (m out : List ℕ)
+    → 0 ≡ send_number base window running place m (length out) → wire_fits out (payload_at base m place) ≡ true
 unfolding wire_fits
-sent_fits base window running place m out n e z =
+sent_fits base window running place m out e =
     by_send_number (λ k. k ≡ 0 → wire_fits out (payload_at base m place) ≡ true) base window running place m (length out)
     (λ q. absurd (omega arith))
     (λ q. absurd (omega arith))
@@ -87,4 +86,4 @@ sent_fits base window running place m out n e z =
     let p = payload_at base m place in
     and_yes (leb (length p) 1514) (leb 1518 (length out)) (le-leb (length p) 1514 (payload_short base m place w))
     (le-leb 1518 (length out) (ltb-false (length out) 1518 o)))
-    (rw e at z)
+    (sym e)

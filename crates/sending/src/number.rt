@@ -1,29 +1,30 @@
 // The number of a single send.
 ghost use Rattle.std.specs.Prelude.{◌≡◌};
+ghost use Rattle.answer.specs.Refusals.{number_of};
 ghost use Rattle.sending.specs.Sending.{send_number};
 
+use answer::Refusal;
 use engine::Engine;
+use window::Window;
 
 // 11, 9, 3, 7 for the descriptor, 8, 7 for the buffer, 12, or 0.
-pub(crate) fn number(base: u32, window: u32, tx: Engine, m: &[u8], room: usize) -> u32
-    ensures { result ≡ send_number base window tx.running tx.place m.now room }
+#[tactic(auto, unfolding(crate::specs::Sending::send_number))]
+pub(crate) fn number(window: Window, tx: Engine, m: &[u8], room: usize) -> Result<(), Refusal>
+    ensures { number_of result ≡ send_number window.base window.length tx.running tx.place m.now room }
 {
-    if !window::lent(window, m) {
-        return answer::LENT_LENGTH;
+    if !window.lent(m) {
+        return Err(Refusal::LentLength);
     }
     if room < 1518 {
-        return answer::OUTPUT_SHORT;
+        return Err(Refusal::OutputShort);
     }
     if !tx.running {
-        return answer::NOT_RUNNING;
+        return Err(Refusal::NotRunning);
     }
-    let n = descriptor::count(base, m, tx.place);
-    let met = chain::number(base, window, m, tx.place, n as usize);
-    if met != answer::DONE {
-        return met;
-    }
+    let n = descriptor::count(window, m, tx.place);
+    chain::number(window, m, tx.place, n as usize)?;
     if wire::send_length_wrong(n) {
-        return answer::SEND_LENGTH;
+        return Err(Refusal::SendLength);
     }
-    answer::DONE
+    Ok(())
 }

@@ -25,9 +25,8 @@ fn event<P: Print>(
     let waiting = day_lines::write_past(rt, day_lines::MOST, text, day.waiting);
     let sent = memory::part(output, 0, acted.count);
     let end = day_reports::event(text, waiting, found, acted.number, sent);
-    let device = acted.device;
     Day {
-        device,
+        device: acted.device,
         waiting: end,
     }
 }

@@ -6,7 +6,7 @@ use mathlib.Core.List.{List}
 use Rattle.script.specs.Calls.{call_of}
 use Rattle.kinds.specs.Kinds.{renews}
 use Rattle.vic_script.specs.declared.VicCall.{VicCall}
-use Rattle.vic_script.specs.declared.VicLine.TheVariants.{Calls, Other}
+use Rattle.std.specs.Prelude.{Some, None}
 use Rattle.vic_script.specs.VicCalls.{vic_call_of}
 use Rattle.vic_commands.specs.declared.Controllers.{Controllers}
 use Rattle.vic_commands.specs.VicCommands.{reset}
@@ -15,15 +15,15 @@ use Rattle.board.specs.Board.{BoardAnswer, called, renewed, elsewhere, answer}
 use Rattle.siblings.specs.Siblings.{LeavesEnet, AsByItself, Siblings}
 
 module _ (b : Board) (m line : List ℕ) where
-  by_call : (call : VicCall) → vic_call_of line ≡ Calls call → answer b m line ≡ called b m call
+  by_call : (call : VicCall) → vic_call_of line ≡ Some call → answer b m line ≡ called b m call
   unfolding answer
   by_call call e = rw e
 
-  by_other : vic_call_of line ≡ Other → answer b m line ≡ elsewhere b m line
+  by_other : vic_call_of line ≡ None → answer b m line ≡ elsewhere b m line
   unfolding answer
   by_other e = rw e
 
-  leaves_enet : (call : VicCall) → vic_call_of line ≡ Calls call → LeavesEnet b m line
+  leaves_enet : (call : VicCall) → vic_call_of line ≡ Some call → LeavesEnet b m line
   unfolding called
   leaves_enet call e =
       let h = by_call call e in
@@ -33,7 +33,7 @@ module _ (b : Board) (m line : List ℕ) where
         bytes = ap (λ (a : BoardAnswer). a.memory) h;
       }
 
-  as_by_itself : vic_call_of line ≡ Other → AsByItself b m line
+  as_by_itself : vic_call_of line ≡ None → AsByItself b m line
   unfolding elsewhere
   as_by_itself e =
       let h = by_other e in
@@ -51,11 +51,11 @@ module _ (b : Board) (m line : List ℕ) where
   unfolding renewed
   is_renewed c e = rw e
 
-  renews_controllers : vic_call_of line ≡ Other → renews (call_of line).command ≡ true → (answer b m line).board.controllers ≡ reset
+  renews_controllers : vic_call_of line ≡ None → renews (call_of line).command ≡ true → (answer b m line).board.controllers ≡ reset
   unfolding elsewhere
   renews_controllers e n = ap (λ (a : BoardAnswer). a.board.controllers) (by_other e) ∙ is_renewed b.controllers n
 
-  leaves_controllers : vic_call_of line ≡ Other → renews (call_of line).command ≡ false → (answer b m line).board.controllers ≡ b.controllers
+  leaves_controllers : vic_call_of line ≡ None → renews (call_of line).command ≡ false → (answer b m line).board.controllers ≡ b.controllers
   unfolding elsewhere
   leaves_controllers e n = ap (λ (a : BoardAnswer). a.board.controllers) (by_other e) ∙ not_renewed b.controllers n
 

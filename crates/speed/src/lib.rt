@@ -9,6 +9,7 @@ ghost use Rattle.timing.specs.Timing.{bench, window_of, received};
 ghost use Rattle.speed.specs.Rounds.{receive_round, receive_rounds, transmitted, send_round, send_rounds};
 
 use enet::{Answered, Enet, Sent};
+use window::Window;
 
 // Grants the descriptor at address 0, and brings the frame in.
 fn receive_round(device: Enet, memory: &mut [u8], frame: &[u8]) -> Answered
@@ -39,7 +40,11 @@ pub extern "C" fn speed_receive(memory: &mut [u8], frame: &[u8], rounds: u32) ->
 fn send_round(device: Enet, memory: &mut [u8], output: &mut [u8]) -> Sent
     ensures { sending result memory.new output.new ≡ send_round device memory.old output.old }
 {
-    packet_status::set_packet_status(0, memory, 0, packet_status::VALID);
+    let window = Window {
+        base: 0,
+        length: device.window,
+    };
+    packet_status::set_packet_status(window, memory, 0, packet_status::VALID);
     device.send(memory, output)
 }
 

@@ -1,5 +1,5 @@
 -- The ways out of this crate's functions, and the turns of their loops, as laws of the definitions. Assumes nothing.
-use Prim.Native.Nat.{ℕ, zero, suc, ◌+◌, ◌*◌, ◌/◌, ◌%◌, ◌-◌, ◌≤◌, ◌<◌}
+use Prim.Native.Nat.{ℕ, zero, suc, ◌+◌, ◌*◌, ◌/◌, ◌%◌, ◌-◌, ◌≤◌, ◌<◌, min, max}
 use mathlib.Core.Path.{◌≡◌, refl, sym, ap, ◌∙◌}
 use mathlib.Core.List.{List, [], ◌∷◌, ◌++◌}
 use native.Mathlib.Omega.{arith}
@@ -8,24 +8,29 @@ use lib.Dec.{eqb}
 use lib.ListN.{length, take, drop, length-take, length-drop, length-append, drop_of_length-le}
 use lib.Seq.{take_all}
 use borrow.Author.Tests.{eq-eqb, ne_eqb, eqb-true, eqb-false}
+use Rattle.answer.specs.declared.Refusal.{Refusal}
+use Rattle.answer.specs.Refusals.{refusal_number}
+use Rattle.answer.proofs.Laws.{not_done}
 use Rattle.memory.specs.Memory.{store}
 use Rattle.memory.proofs.Stores.{length_store, store_append}
 use Rattle.block.specs.Fields.{used_length, data_of, used_data}
 use Rattle.block.specs.Faults.{block_fault}
-use Rattle.stream.specs.declared.Fault.{Fault}
-use Rattle.stream.specs.Blocks.{block_at, block_count, is_last, fault_at, first_fault}
+use Rattle.stream.specs.Blocks.{block_at, block_count, is_last, fault_at, Fault, first_fault}
 use Rattle.stream.specs.Stream.{stream, events_of, event_bytes}
 use Rattle.rules.proofs.Choices.{by_bool}
 
 -- ---- how many blocks
 
-pub count_none : (bytes : ℕ) → bytes ≡ 0 → 1 ≡ block_count bytes
+pub count_is : (bytes : ℕ) → max (bytes / 512 + min 1 (bytes % 512)) 1 ≡ block_count bytes
 unfolding block_count
-count_none bytes e = rw (eq-eqb bytes 0 e)
-
-pub count_some : (bytes : ℕ) → (bytes ≡ 0 → ⊥) → bytes / 512 + (bytes % 512 + 511) / 512 ≡ block_count bytes
-unfolding block_count
-count_some bytes h = rw (ne_eqb bytes 0 h) (omega arith)
+count_is bytes =
+    by_bool (eqb bytes 0)
+    (λ t.
+    let z = eqb-true bytes 0 t in
+    rw t (omega arith))
+    (λ t.
+    let some = eqb-false bytes 0 t in
+    rw t (omega arith))
 
 pub count_least : (bytes : ℕ) → 1 ≤ block_count bytes
 unfolding block_count
@@ -77,21 +82,25 @@ testing_on t blocks k n i l f z =
     let w : first_fault t k (suc (blocks - (k + 1))) ≡ first_fault t 0 blocks = rw e at i.1 in
     (omega arith, rw (eq-eqb (fault_at t k) 0 (sym f ∙ z)) at w)
 
-pub testing_stops : (t : List ℕ) (blocks k n : ℕ) → blocks ≡ block_count (length t) → Testing t blocks k → k < blocks → n ≡ fault_at t k → (n ≡ 0 → ⊥)
-    → ◌≡◌ {A = Fault} (record { number = n; block = k }) (first_fault t 0 (block_count (length t)))
+pub testing_stops : (t : List ℕ) (blocks k : ℕ) (refusal : Refusal) → blocks ≡ block_count (length t) → Testing t blocks k → k < blocks
+    → refusal_number refusal ≡ fault_at t k
+    → ◌≡◌ {A = Fault} (record { number = refusal_number refusal; block = k }) (first_fault t 0 (block_count (length t)))
 unfolding first_fault
-testing_stops t blocks k n b i l f h =
+testing_stops t blocks k refusal b i l f =
     let e : blocks - k ≡ suc (blocks - (k + 1)) = omega arith in
     let w : first_fault t k (suc (blocks - (k + 1))) ≡ first_fault t 0 blocks = rw e at i.1 in
+    let h = eqb-false (refusal_number refusal) 0 (not_done refusal) in
     rw (← b, f) (rw (ne_eqb (fault_at t k) 0 (λ q. h (f ∙ q))) at w)
 
 pub testing_ends : (t : List ℕ) (blocks k : ℕ) → blocks ≡ block_count (length t) → Testing t blocks k → blocks ≤ k
-    → ◌≡◌ {A = Fault} (record { number = 0; block = k }) (first_fault t 0 (block_count (length t)))
+    → ◌≡◌ {A = Fault} (record { number = 0; block = blocks }) (first_fault t 0 (block_count (length t)))
 unfolding first_fault
 testing_ends t blocks k b i l =
+    let most = i.0 in
     let e : blocks - k ≡ 0 = omega arith in
+    let q : k ≡ blocks = omega arith in
     let w : first_fault t k 0 ≡ first_fault t 0 blocks = rw e at i.1 in
-    rw (← b) w
+    rw (← b) (ap (λ j. record { number = 0; block = j }) (sym q) ∙ w)
 
 -- ---- the used data of a block
 

@@ -4,17 +4,20 @@
 
 ghost use Rattle.std.specs.Prelude.{◌-◌, ◌≡◌, length, drop};
 ghost use Rattle.memory.specs.Memory.{store};
+ghost use Rattle.answer.specs.Refusals.{number_of};
 ghost use Rattle.block.specs.Fields.{used_data};
-ghost use Rattle.stream.specs.Blocks.{block_at, block_count, fault_at, first_fault};
+ghost use Rattle.stream.specs.Blocks.{block_at, block_count, fault_at, fault_of, first_fault};
 ghost use Rattle.stream.specs.Stream.{header_length, event_bytes};
+
+use answer::Refusal;
 
 // The bytes of the header: the base, and the window's length less one.
 pub const HEADER: usize = 6;
 
-// A bad block, and the number of its fault; with 0 none, and of `first_fault` then the place behind the blocks.
+// Why a trace is refused, and its bad block; 0 where the reason is no block's.
 #[derive(Clone, Copy)]
-pub struct Fault {
-    pub number: u32,
+pub struct Refused {
+    pub refusal: Refusal,
     pub block: usize,
 }
 
@@ -22,10 +25,7 @@ pub struct Fault {
 pub fn block_count(bytes: usize) -> usize
     ensures { result ≡ block_count bytes }
 {
-    if bytes == 0 {
-        return 1;
-    }
-    bytes / 512 + (bytes % 512 + 511) / 512
+    bytes.div_ceil(512).max(1)
 }
 
 // The block at a place.
@@ -38,31 +38,25 @@ pub fn block_at(trace: &[u8], k: usize) -> &[u8]
     memory::part(trace, 512 * k, 512)
 }
 
-// What is wrong with the block at a place by itself, or 0.
-fn fault_at(trace: &[u8], k: usize, blocks: usize) -> u32
+// What is wrong with the block at a place by itself.
+fn fault_at(trace: &[u8], k: usize, blocks: usize) -> Result<(), Refusal>
     requires { blocks ≡ block_count (length trace.now) }
-    ensures { result ≡ fault_at trace.now k }
+    ensures { number_of result ≡ fault_at trace.now k }
 {
     block::fault(block_at(trace, k), k, k == blocks - 1)
 }
 
-// The first block that is wrong by itself.
-pub fn first_fault(trace: &[u8]) -> Fault
-    ensures { result ≡ first_fault trace.now 0 (block_count (length trace.now)) }
+// The first block that is wrong by itself, or how many blocks there are.
+pub fn first_fault(trace: &[u8]) -> Result<usize, Refused>
+    ensures { fault_of result ≡ first_fault trace.now 0 (block_count (length trace.now)) }
 {
     let blocks = block_count(trace.len());
-    let mut k = 0;
-    while k < blocks {
-        let number = fault_at(trace, k, blocks);
-        if number != 0 {
-            return Fault { number, block: k };
+    for k in 0..blocks {
+        if let Err(refusal) = fault_at(trace, k, blocks) {
+            return Err(Refused { refusal, block: k });
         }
-        k += 1;
     }
-    Fault {
-        number: 0,
-        block: k,
-    }
+    Ok(blocks)
 }
 
 // The used data of the block at a place.
@@ -77,14 +71,14 @@ fn used_data(trace: &[u8], k: usize) -> &[u8]
 fn behind_header(bytes: usize) -> usize
     ensures { result ≡ bytes - header_length }
 {
-    if bytes < HEADER { 0 } else { bytes - HEADER }
+    bytes.saturating_sub(HEADER)
 }
 
 // How many of the bytes behind so many bytes of used data belong to the header.
 fn header_left(bytes: usize) -> usize
     ensures { result ≡ header_length - bytes }
 {
-    if bytes < HEADER { HEADER - bytes } else { 0 }
+    HEADER.saturating_sub(bytes)
 }
 
 // Puts the events of the block at a place behind those of so many bytes of used data before it, and answers how many bytes of
@@ -107,9 +101,7 @@ pub fn copy(trace: &[u8], room: &mut [u8])
 {
     let blocks = block_count(trace.len());
     let mut bytes = 0;
-    let mut k = 0;
-    while k < blocks {
+    for k in 0..blocks {
         bytes += copy_block(trace, k, bytes, room);
-        k += 1;
     }
 }

@@ -30,23 +30,12 @@ fn make_both_or_say<R: Files + Print>(
     ensures { result ≤ 2 }
 {
     let failed = new_files::make_both(rt, first, a, second, b);
-    if failed == 1 {
-        arguments::wrong(rt, first);
-    }
-    if failed == 2 {
-        arguments::wrong(rt, second);
-    }
+    match failed {
+        1 => arguments::wrong(rt, first),
+        2 => arguments::wrong(rt, second),
+        _ => false,
+    };
     failed
-}
-
-// Puts an argument at the front of a buffer, and answers its length.
-fn argument<R: Env>(rt: &R, i: usize, name: &mut [u8; WORD]) -> usize {
-    arguments::fetch(rt, i, name)
-}
-
-// The name of so many characters.
-fn named(name: &[u8; WORD], n: usize) -> &[u8] {
-    memory::part(name, 0, n)
 }
 
 // Makes the file that an argument names. Answers 0 where it is made, 1 where it cannot be.
@@ -54,8 +43,8 @@ pub fn make<R: Env + Files + Print>(rt: &R, i: usize, bytes: &[u8]) -> u32
     ensures { result ≤ 1 }
 {
     let mut name = [0u8; WORD];
-    let n = argument(rt, i, &mut name);
-    make_or_say(rt, named(&name, n), bytes)
+    let n = arguments::fetch(rt, i, &mut name);
+    make_or_say(rt, &name[..n], bytes)
 }
 
 // Makes the files that two arguments name. Answers 0 where both are made, 1 where the first cannot be, 2 where the second cannot be;
@@ -70,8 +59,8 @@ pub fn make_both<R: Env + Files + Print>(
     ensures { result ≤ 2 }
 {
     let mut one = [0u8; WORD];
-    let n = argument(rt, first, &mut one);
+    let n = arguments::fetch(rt, first, &mut one);
     let mut two = [0u8; WORD];
-    let k = argument(rt, second, &mut two);
-    make_both_or_say(rt, named(&one, n), a, named(&two, k), b)
+    let k = arguments::fetch(rt, second, &mut two);
+    make_both_or_say(rt, &one[..n], a, &two[..k], b)
 }

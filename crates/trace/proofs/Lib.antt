@@ -2,3 +2,4 @@ pub mod Bytes
 pub mod Good
 pub mod Judged
 pub mod Looked
+pub mod Passes

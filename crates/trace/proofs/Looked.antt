@@ -18,15 +18,13 @@ use Rattle.event.specs.declared.Ending.{Ending}
 use Rattle.event.specs.declared.Ending.TheVariants.{Whole, Cut, NoEvent}
 use Rattle.event.proofs.Laws.{place_fits}
 use Rattle.prefixes.proofs.Prefixes.{stray, cut_short}
-use Rattle.stream.specs.declared.Fault.{Fault}
-use Rattle.stream.specs.Blocks.{block_count, fault_at, first_fault, Sound}
+use Rattle.stream.specs.Blocks.{Fault, block_count, fault_at, first_fault, Sound}
 use Rattle.stream.specs.Stream.{stream, base_of, window_of, events_of, event_bytes}
 use Rattle.stream.proofs.Sound.{length_within, byte_at}
 use Rattle.stream.proofs.Laws.{count_least, count_most}
-use Rattle.trace.specs.declared.Summary.{Summary}
 use Rattle.trace.specs.Judge.{header_fault, first_bad}
 use Rattle.trace.specs.Passes.{verdict, events_fault}
-use Rattle.trace.specs.Reading.{refused, look, reading_of, read}
+use Rattle.trace.specs.Reading.{Summary, refused, look, reading_of, read}
 use Rattle.trace.proofs.Good.{look_gives}
 use Rattle.trace.proofs.Judged.{bad_first, bad_header, bad_byte, bad_block, bad_end, all_good}
 
@@ -54,6 +52,18 @@ tested t f e = rw e (tests t (block_count (length t)) 0 (omega arith) (λ j l. a
 pub sound_so_far : (t : List ℕ) (f : Fault) → f ≡ first_fault t 0 (block_count (length t)) → (f.block ≡ 0 → ⊥)
     → Sound t f.block × ((0 < f.block) × (f.block ≤ block_count (length t)))
 sound_so_far t f e h = let r = tested t f e in let m = r.most in (r.sound, (omega arith, m))
+
+-- the first pass as the code has it: what it found, and how many blocks are good
+pub begun : (t : List ℕ) (f : Fault) (g : ℕ) → f ≡ first_fault t 0 (block_count (length t)) → g ≡ f.block
+    → verdict f.number g ≡ first_fault t 0 (block_count (length t))
+begun t f g e h = ap (verdict f.number) h ∙ e
+
+-- block 0 is right where all blocks are
+pub some_whole : (t : List ℕ) (n : ℕ) → verdict 0 n ≡ first_fault t 0 (block_count (length t)) → n ≡ 0 → ⊥
+some_whole t n e z =
+    let w = (tested t (verdict 0 n) e).whole refl in
+    let some = count_least (length t) in
+    absurd (omega arith)
 
 -- ---- the header
 
@@ -117,6 +127,11 @@ module _ (t : List ℕ) (f : Fault) (r : Tested t f) (some : 0 < f.block) (heade
       let z = eqb-true f.number 0 u in
       rw u (all_good t f.block r.sound r.most header s (f.block - 1) (omega arith) (r.whole z) q))
       (λ u. rw u (by_block s (eqb-false f.number 0 u)))
+
+-- the verdict, as the code comes by it
+pub judging : (e : Ending) (place : ℕ) (f : Fault) (g : ℕ) (bad : Fault) → g ≡ f.block → bad ≡ events_fault e place f
+    → bad ≡ events_fault e place (verdict f.number g)
+judging e place f g bad h q = q ∙ ap (events_fault e place) (sym (ap (verdict f.number) h))
 
 -- ---- what is said
 

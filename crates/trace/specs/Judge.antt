@@ -7,8 +7,7 @@ use Rattle.window.specs.Window.{window_allowed}
 use Rattle.event.specs.Walk.{walk}
 use Rattle.event.specs.declared.Ending.{Ending}
 use Rattle.event.specs.declared.Ending.TheVariants.{Whole, Cut, NoEvent}
-use Rattle.stream.specs.declared.Fault.{Fault}
-use Rattle.stream.specs.Blocks.{block_count, is_last, fault_at}
+use Rattle.stream.specs.Blocks.{Fault, block_count, is_last, fault_at}
 use Rattle.stream.specs.Stream.{stream, base_of, window_of, header_length, events_of}
 
 -- "a header cut or not allowed is an event fault"

@@ -4,24 +4,24 @@
 mod scattered;
 
 ghost use Rattle.std.specs.Prelude.{◌+◌, ◌^◌, ◌≤◌, ◌<◌, ◌≡◌, length};
+ghost use Rattle.answer.specs.declared.Refusal.TheVariants.{Event};
 ghost use Rattle.memory.specs.Memory.{word};
 ghost use Rattle.block.specs.Fields.{half};
 ghost use Rattle.event.specs.Walk.{walk, counted};
-ghost use Rattle.stream.specs.Blocks.{block_count, Sound};
+ghost use Rattle.stream.specs.Blocks.{block_count, first_fault, fault_of, Sound};
 ghost use Rattle.stream.specs.Stream.{stream, header_length, events_of};
 ghost use Rattle.trace.specs.Judge.{header_fault};
-ghost use Rattle.trace.specs.Passes.{verdict, events_fault};
-ghost use Rattle.trace.specs.Reading.{refused, look, reading_of, read};
+ghost use Rattle.trace.specs.Passes.{events_fault, bad_of};
+ghost use Rattle.trace.specs.Reading.{summary_of, look, reading_of, read};
 
+use answer::Refusal;
 use event::{Ending, Walked};
-use stream::{Fault, HEADER};
+use stream::{HEADER, Refused};
+use window::Window;
 
-// What a trace says: 0, the window, how many bytes its events are and how many events; or the number of the refusal, with the bad
-// block where it is one's, and zeros.
+// What a trace says: the window, how many bytes its events are and how many events.
 #[derive(Clone, Copy)]
 pub struct Summary {
-    pub number: u32,
-    pub block: usize,
     pub base: u32,
     pub window: u32,
     pub bytes: usize,
@@ -76,98 +76,87 @@ fn header_fault(trace: &[u8], good: usize) -> bool
     requires { Sound trace.now good × ((0 < good) × (good ≤ block_count (length trace.now))) }
     ensures { result ≡ header_fault (stream trace.now good) }
 {
-    if end_of(trace, good) < HEADER {
-        return true;
+    let window = Window {
+        base: base_of(trace),
+        length: window_of(trace),
+    };
+    end_of(trace, good) < HEADER || !window.allowed()
+}
+
+// The event fault of a block.
+fn bad_event(block: usize) -> Refused
+    ensures { result ≡ record { refusal = Event; block = block } }
+{
+    Refused {
+        refusal: Refusal::Event,
+        block,
     }
-    !window::window_allowed(base_of(trace), window_of(trace))
 }
 
 // The first bad block, where the header is right: that of a byte no event can have, else the one that is wrong by itself, else
 // the last where an event is cut.
-fn events_fault(ending: Ending, place: usize, number: u32, block: usize) -> Fault
-    requires { (header_length + place < 2 ^ 64) × (0 < block) }
-    ensures { result ≡ events_fault ending place (verdict number block) }
+fn events_fault(ending: Ending, place: usize, tested: Result<usize, Refused>) -> Result<(), Refused>
+    requires { (header_length + place < 2 ^ 64) × (0 < (fault_of tested).block) }
+    ensures { bad_of result ≡ events_fault ending place (fault_of tested) }
 {
-    match ending {
-        Ending::NoEvent => Fault {
-            number: answer::EVENT,
-            block: (HEADER + place) / 504,
-        },
-        Ending::Cut => {
-            if number == 0 {
-                return Fault {
-                    number: answer::EVENT,
-                    block: block - 1,
-                };
-            }
-            Fault { number, block }
-        }
-        Ending::Whole => {
-            if number == 0 {
-                return Fault {
-                    number: answer::DONE,
-                    block: 0,
-                };
-            }
-            Fault { number, block }
-        }
+    if let Ending::NoEvent = ending {
+        return Err(bad_event((HEADER + place) / 504));
     }
+    let blocks = tested?;
+    if let Ending::Cut = ending {
+        return Err(bad_event(blocks - 1));
+    }
+    Ok(())
 }
 
-// A refusal by a number, with the bad block where it is one's.
-fn refused(number: u32, block: usize) -> Summary
-    ensures { result ≡ refused number block }
+// What a trace says to a reader with room for so many bytes. The first blocks, as many as are good by themselves, are tested.
+fn look_behind(
+    trace: &[u8],
+    good: usize,
+    tested: Result<usize, Refused>,
+    room: usize,
+) -> Result<Summary, Refused>
+    requires { (fault_of tested ≡ first_fault trace.now 0 (block_count (length trace.now))) × ((good ≡ (fault_of tested).block) × (good ≡ 0 → ⊥)) }
+    ensures { summary_of result ≡ look trace.now room }
 {
-    Summary {
-        number,
-        block,
-        base: 0,
-        window: 0,
-        bytes: 0,
-        events: 0,
-    }
-}
-
-// What a trace says to a reader with room for so many bytes. Two passes find the first bad block: one over the blocks, one along
-// the events of those before the first block that is wrong by itself.
-pub fn look(trace: &[u8], room: usize) -> Summary
-    ensures { result ≡ look trace.now room }
-{
-    let tested = stream::first_fault(trace);
-    let good = tested.block;
-    if good == 0 {
-        return refused(tested.number, 0);
-    }
     if header_fault(trace, good) {
-        return refused(answer::EVENT, 0);
+        return Err(bad_event(0));
     }
     let walked = walk_in(trace, good);
-    let ending = walked.ending;
-    let bad = events_fault(ending, walked.place, tested.number, good);
-    if bad.number != 0 {
-        return refused(bad.number, bad.block);
-    }
+    events_fault(walked.ending, walked.place, tested)?;
     let bytes = end_of(trace, good) - HEADER;
     if room < bytes {
-        return refused(answer::EVENT_ROOM, 0);
+        return Err(Refused {
+            refusal: Refusal::EventRoom,
+            block: 0,
+        });
     }
-    Summary {
-        number: answer::DONE,
-        block: 0,
+    Ok(Summary {
         base: base_of(trace),
         window: window_of(trace),
         bytes,
         events: walked.events,
+    })
+}
+
+// What a trace says to a reader with room for so many bytes. Two passes find the first bad block: one over the blocks, one along
+// the events of those before the first block that is wrong by itself.
+pub fn look(trace: &[u8], room: usize) -> Result<Summary, Refused>
+    ensures { summary_of result ≡ look trace.now room }
+{
+    let tested = stream::first_fault(trace);
+    match tested {
+        Ok(blocks) => look_behind(trace, blocks, tested, room),
+        Err(refused) if refused.block == 0 => Err(refused),
+        Err(refused) => look_behind(trace, refused.block, tested, room),
     }
 }
 
 // Reads a trace: what it says, and its events at the front of the room. A refusal leaves the room as it was.
-pub fn read(trace: &[u8], room: &mut [u8]) -> Summary
-    ensures { reading_of result room.new ≡ read trace.now room.old }
+pub fn read(trace: &[u8], room: &mut [u8]) -> Result<Summary, Refused>
+    ensures { reading_of (summary_of result) room.new ≡ read trace.now room.old }
 {
-    let summary = look(trace, room.len());
-    if summary.number == 0 {
-        stream::copy(trace, room);
-    }
-    summary
+    let summary = look(trace, room.len())?;
+    stream::copy(trace, room);
+    Ok(summary)
 }

@@ -5,9 +5,8 @@ use Rattle.memory.specs.Memory.{store}
 use Rattle.block_forms.specs.Forms.{Bytes}
 use Rattle.event.specs.Walk.{walk}
 use Rattle.stream.specs.Stream.{event_bytes}
-use Rattle.trace.specs.declared.Summary.{Summary}
 use Rattle.trace.specs.Judge.{first_bad}
-use Rattle.trace.specs.Reading.{look, reading_of, read}
+use Rattle.trace.specs.Reading.{Summary, look, reading_of, read}
 use Rattle.trace_writing.specs.Made.{trace_of}
 use Rattle.trace_writing.specs.Writing.{needed, write_number, write}
 

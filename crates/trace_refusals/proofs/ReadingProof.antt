@@ -11,8 +11,7 @@ use borrow.Author.Tests.{eqb-true, eqb-false, ltb-true, ltb-false}
 use Rattle.block.specs.Fields.{block_number, used_length, unused_data, stored_check, check_of}
 use Rattle.block.specs.Faults.{used_fault, all_zero, block_fault}
 use Rattle.rules.proofs.Choices.{by_bool}
-use Rattle.stream.specs.declared.Fault.{Fault}
-use Rattle.stream.specs.Blocks.{block_at, block_count, is_last, fault_at}
+use Rattle.stream.specs.Blocks.{Fault, block_at, block_count, is_last, fault_at}
 use Rattle.stream.specs.Stream.{stream, event_bytes}
 use Rattle.trace.specs.Judge.{event_fault, reason, first_bad_from, first_bad}
 use Rattle.trace.specs.Passes.{verdict}

@@ -3,12 +3,9 @@ use Prim.Native.Nat.{ℕ}
 use mathlib.Core.Path.{◌≡◌}
 use mathlib.Core.List.{List}
 use Rattle.memory.specs.Memory.{store}
-use Rattle.trace.specs.declared.Summary.{Summary}
-use Rattle.trace.specs.Reading.{reading_of, read}
-use Rattle.trace_writing.specs.declared.Written.{Written}
-use Rattle.trace_writing.specs.Writing.{writing_of, write}
-use Rattle.replaying.specs.declared.Replayed.{Replayed}
-use Rattle.replaying.specs.Replay.{replaying, replay}
+use Rattle.trace.specs.Reading.{Summary, reading_of, read}
+use Rattle.trace_writing.specs.Writing.{Written, writing_of, write}
+use Rattle.replaying.specs.Replay.{Replayed, replaying, replay}
 use Rattle.trace_trial.specs.Numbers.{summary_numbers, written_numbers, replayed_numbers, left, replayed}
 
 pub read_left : (t room next found after : List ℕ) (f : Summary) → reading_of f next ≡ read t room → after ≡ store found 0 (summary_numbers f)

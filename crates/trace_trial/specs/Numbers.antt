@@ -4,10 +4,9 @@ use Rattle.std.specs.Prelude.{if◌then◌else◌}
 use Rattle.memory.specs.Memory.{store}
 use Rattle.engine.specs.declared.Engine.{Engine}
 use Rattle.counters.specs.declared.Counters.{Counters}
-use Rattle.trace.specs.declared.Summary.{Summary}
-use Rattle.trace_writing.specs.declared.Written.{Written}
-use Rattle.replaying.specs.declared.Replayed.{Replayed}
-use Rattle.replaying.specs.Replay.{replay}
+use Rattle.trace.specs.Reading.{Summary}
+use Rattle.trace_writing.specs.Writing.{Written}
+use Rattle.replaying.specs.Replay.{Replayed, replay}
 
 abbrev pub summary_numbers : Summary → List ℕ
 summary_numbers f = f.number ∷ f.block ∷ f.base ∷ f.window ∷ f.bytes ∷ f.events ∷ []

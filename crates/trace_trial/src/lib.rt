@@ -4,11 +4,16 @@
 
 ghost use Rattle.std.specs.Prelude.{◌≡◌};
 ghost use Rattle.memory.specs.Memory.{store};
-ghost use Rattle.trace.specs.Reading.{read};
-ghost use Rattle.trace_writing.specs.Writing.{write};
+ghost use Rattle.trace.specs.Reading.{summary_of, read};
+ghost use Rattle.trace_writing.specs.Writing.{written_of, write};
+ghost use Rattle.replaying.specs.Replay.{replayed_of};
 ghost use Rattle.trace_trial.specs.Numbers.{summary_numbers, written_numbers, flag, replayed_numbers, left, replayed};
 
+use answer::Refusal;
+use enet::Enet;
 use replaying::Replayed;
+use stream::Refused;
+use trace::Summary;
 
 // A test as a number.
 fn flag(t: bool) -> u64
@@ -17,23 +22,47 @@ fn flag(t: bool) -> u64
     if t { 1 } else { 0 }
 }
 
+// What reading answered.
+fn summary_numbers(read: Result<Summary, Refused>) -> [u64; 6]
+    ensures { result ≡ summary_numbers (summary_of read) }
+{
+    match read {
+        Ok(summary) => [
+            0,
+            0,
+            summary.base as u64,
+            summary.window as u64,
+            summary.bytes as u64,
+            summary.events as u64,
+        ],
+        Err(refused) => [
+            u32::from(refused.refusal) as u64,
+            refused.block as u64,
+            0,
+            0,
+            0,
+            0,
+        ],
+    }
+}
+
 // Reads a trace into a room.
 #[unsafe(no_mangle)]
 pub extern "C" fn trace_trial_read(trace: &[u8], room: &mut [u8], found: &mut [u64])
     ensures { (room.new ≡ (read trace.now room.old).room) × (found.new ≡ store found.old 0 (summary_numbers (read trace.now room.old).summary)) }
 {
-    let f = trace::read(trace, room);
-    number_list::put(
-        found,
-        &[
-            f.number as u64,
-            f.block as u64,
-            f.base as u64,
-            f.window as u64,
-            f.bytes as u64,
-            f.events as u64,
-        ],
-    );
+    let read = trace::read(trace, room);
+    number_list::put(found, &summary_numbers(read));
+}
+
+// What writing answered.
+fn written_numbers(written: Result<usize, Refusal>) -> [u64; 2]
+    ensures { result ≡ written_numbers (written_of written) }
+{
+    match written {
+        Ok(blocks) => [0, blocks as u64],
+        Err(refusal) => [u32::from(refusal) as u64, 0],
+    }
 }
 
 // Writes a trace into a room.
@@ -47,25 +76,24 @@ pub extern "C" fn trace_trial_write(
 )
     ensures { (room.new ≡ (write base window events.now room.old).room) × (found.new ≡ store found.old 0 (written_numbers (write base window events.now room.old).written)) }
 {
-    let w = trace_writing::write(base, window, events, room);
-    number_list::put(found, &[w.number as u64, w.blocks as u64]);
+    let written = trace_writing::write(base, window, events, room);
+    number_list::put(found, &written_numbers(written));
 }
 
-// What a replay answered.
-fn numbers_of(r: Replayed) -> [u64; 28]
-    ensures { result ≡ replayed_numbers r }
+// The numbers of a replay, with those of its device.
+fn numbers_of(number: u32, block: usize, bytes: usize, events: usize, device: Enet) -> [u64; 28]
+    ensures { result ≡ replayed_numbers (record { number = number; block = block; bytes = bytes; events = events; device = device }) }
 {
-    let device = r.device;
     let registers = device.registers;
     let filter = registers.filter;
     let rx = registers.rx;
     let tx = registers.tx;
     let counters = device.counters;
     [
-        r.number as u64,
-        r.block as u64,
-        r.bytes as u64,
-        r.events as u64,
+        number as u64,
+        block as u64,
+        bytes as u64,
+        events as u64,
         device.base as u64,
         device.window as u64,
         registers.isr as u64,
@@ -93,6 +121,22 @@ fn numbers_of(r: Replayed) -> [u64; 28]
     ]
 }
 
+// What a replay answered.
+fn replayed_numbers(replayed: Result<Replayed, replaying::Refused>) -> [u64; 28]
+    ensures { result ≡ replayed_numbers (replayed_of replayed) }
+{
+    match replayed {
+        Ok(day) => numbers_of(0, 0, day.bytes, day.events, day.device),
+        Err(refused) => numbers_of(
+            u32::from(refused.refusal),
+            refused.block,
+            0,
+            0,
+            refused.device,
+        ),
+    }
+}
+
 // Replays a trace.
 #[unsafe(no_mangle)]
 pub extern "C" fn trace_trial_replay(
@@ -105,6 +149,6 @@ pub extern "C" fn trace_trial_replay(
 )
     ensures { left room.new memory.new output.new answers.new found.new ≡ replayed trace.now room.old memory.old output.old answers.old found.old }
 {
-    let r = replaying::replay(trace, room, memory, output, answers);
-    number_list::put(found, &numbers_of(r));
+    let replayed = replaying::replay(trace, room, memory, output, answers);
+    number_list::put(found, &replayed_numbers(replayed));
 }

@@ -7,7 +7,7 @@ use native.Mathlib.Nat.{add-zero}
 use lib.ListN.{length, take, drop, length-append, length-take}
 use lib.Seq.{drop-drop}
 use Rattle.memory.specs.Memory.{word_bytes, store}
-use Rattle.memory.proofs.Stores.{length_store, part_back, store_append}
+use Rattle.memory.proofs.Stores.{part_back, store_append}
 use Rattle.block.specs.Made.{half_bytes, block_of}
 use Rattle.block.proofs.Blocks.{length_block}
 use Rattle.trace_writing.specs.Made.{stream_of, blocks_of}
@@ -95,9 +95,6 @@ module _ (events m : List ℕ) (blocks : ℕ) where
       let more : blocks_of 1 (k + 1 - 1) rest ≡ blocks_of 1 (k - 1) rest ++ block_of k part =
       rw e₁ (blocks_more (k - 1) 1 rest ∙ rw (e₂, e₃, ep)) in
       (omega arith, (omega arith, en ∙ rw i.1.1 (store_append m 512 (512 * k) (blocks_of 1 (k - 1) rest) (block_of k part) j ∙ rw more)))
-
-  pub putting_length : (room : List ℕ) (k : ℕ) → Putting events m blocks room k → length room ≡ length m
-  putting_length room k i = ap length i.1.1 ∙ length_store m 512 (blocks_of 1 (k - 1) (drop 498 events))
 
   pub putting_ends : (room : List ℕ) (k : ℕ) → Putting events m blocks room k → blocks ≤ k → room ≡ store m 512 (blocks_of 1 (blocks - 1) (drop 498 events))
   putting_ends room k i l =

@@ -1,14 +1,15 @@
 -- 02, Wish 4: "Writing is refused exactly if its event list is not of its form in docs/, if base and length are no allowed window,
 -- or if over 65,536 blocks or more room than lent is needed"; each refusal "takes its own next number .. as named, is tested in
 -- that order and changes nothing". Assumes nothing.
-use Rattle.std.specs.Prelude.{ℕ, ◌+◌, ◌*◌, Bool, true, false, not, List, eqb, ltb, length}
+use Rattle.std.specs.Prelude.{ℕ, ◌+◌, ◌*◌, Bool, true, false, not, List, Result, Ok, Err, eqb, ltb, length}
 use Rattle.std.specs.Prelude.{if◌then◌else◌}
+use Rattle.answer.specs.declared.Refusal.{Refusal}
+use Rattle.answer.specs.Refusals.{refusal_number}
 use Rattle.memory.specs.Memory.{store}
 use Rattle.window.specs.Window.{window_allowed}
 use Rattle.event.specs.Walk.{walk}
 use Rattle.event.specs.declared.Ending.{Ending}
 use Rattle.event.specs.declared.Ending.TheVariants.{Whole, Cut, NoEvent}
-use Rattle.trace_writing.specs.declared.Written.{Written}
 use Rattle.trace_writing.specs.Made.{blocks_for, trace_of}
 
 -- an event list "of its form": whole events and nothing behind them
@@ -29,6 +30,16 @@ write_number base window events room =
     if ltb 65536 (needed events) then 27 else
     if ltb room (512 * needed events) then 28 else
     0
+
+-- a trace that was written: 0 and how many blocks, or the number of the refusal and none
+pub record Written : Type 0 where
+  pub number : ℕ
+  pub blocks : ℕ
+
+-- as the code answers it
+abbrev pub written_of : Result ℕ Refusal → Written
+written_of (Ok blocks) = record { number = 0; blocks = blocks }
+written_of (Err refusal) = record { number = refusal_number refusal; blocks = 0 }
 
 -- what writing gives: its number, how many blocks, and the room, with the blocks at its front
 pub record Writing : Type 0 where

@@ -8,14 +8,9 @@ ghost use Rattle.trace_writing.specs.Made.{stream_of, blocks_of};
 fn header(base: u32, last: u32) -> [u8; 6]
     ensures { result ≡ word_bytes base ++ half_bytes last }
 {
-    [
-        (base % 256) as u8,
-        (base / 256 % 256) as u8,
-        (base / 256 / 256 % 256) as u8,
-        (base / 256 / 256 / 256 % 256) as u8,
-        (last % 256) as u8,
-        (last / 256 % 256) as u8,
-    ]
+    let [a, b, c, d] = base.to_le_bytes();
+    let [low, high, ..] = last.to_le_bytes();
+    [a, b, c, d, low, high]
 }
 
 // Room for the used data of block 0.
@@ -43,10 +38,8 @@ fn put_rest(events: &[u8], blocks: usize, room: &mut [u8])
     requires { (1 ≤ blocks) × (blocks ≤ 65536) }
     ensures { room.new ≡ store room.old 512 (blocks_of 1 (blocks - 1) (drop 498 events.now)) }
 {
-    let mut k = 1;
-    while k < blocks {
+    for k in 1..blocks {
         block::made::put(room, 512 * k, k, memory::part(events, 504 * k - 6, 504));
-        k += 1;
     }
 }
 

@@ -4,27 +4,19 @@
 mod blocks;
 
 ghost use Rattle.std.specs.Prelude.{◌+◌, ◌≡◌};
+ghost use Rattle.answer.specs.Refusals.{number_of};
 ghost use Rattle.trace_writing.specs.Made.{blocks_for};
-ghost use Rattle.trace_writing.specs.Writing.{is_whole, write_number, writing_of, write};
+ghost use Rattle.trace_writing.specs.Writing.{is_whole, write_number, written_of, writing_of, write};
 
+use answer::Refusal;
 use event::Ending;
-
-// A trace that was written: 0 and how many blocks, or the number of the refusal and none.
-#[derive(Clone, Copy)]
-pub struct Written {
-    pub number: u32,
-    pub blocks: usize,
-}
+use window::Window;
 
 // A list with whole events and nothing behind them.
 fn is_whole(ending: Ending) -> bool
     ensures { result ≡ is_whole ending }
 {
-    match ending {
-        Ending::Whole => true,
-        Ending::Cut => false,
-        Ending::NoEvent => false,
-    }
+    matches!(ending, Ending::Whole)
 }
 
 // How many blocks so many bytes of events need, with the header's six before them. The sum of the two could wrap; the sum of
@@ -35,37 +27,38 @@ fn needed(bytes: usize) -> usize
     bytes / 504 + (bytes % 504 + 509) / 504
 }
 
-// The number of the first refusal that holds, in the order in which they are named, or 0.
-fn number(base: u32, window: u32, events: &[u8], room: usize) -> u32
-    ensures { result ≡ write_number base window events.now room }
+// The first refusal that holds, in the order in which they are named.
+#[tactic(auto, unfolding(crate::specs::Writing::write_number))]
+fn check(base: u32, window: u32, events: &[u8], room: usize) -> Result<(), Refusal>
+    ensures { number_of result ≡ write_number base window events.now room }
 {
+    let seen = Window {
+        base,
+        length: window,
+    };
     let walked = event::walk(events);
-    let ending = walked.ending;
-    if !is_whole(ending) {
-        return answer::EVENT_LIST;
+    if !is_whole(walked.ending) {
+        return Err(Refusal::EventList);
     }
-    if !window::window_allowed(base, window) {
-        return answer::TRACE_WINDOW;
+    if !seen.allowed() {
+        return Err(Refusal::TraceWindow);
     }
     let blocks = needed(events.len());
-    if 65536 < blocks {
-        return answer::BLOCKS;
+    if blocks > 65536 {
+        return Err(Refusal::Blocks);
     }
     if room < 512 * blocks {
-        return answer::BLOCK_ROOM;
+        return Err(Refusal::BlockRoom);
     }
-    answer::DONE
+    Ok(())
 }
 
-// Writes the trace of a window and an event list to the front of the room.
-pub fn write(base: u32, window: u32, events: &[u8], room: &mut [u8]) -> Written
-    ensures { writing_of result room.new ≡ write base window events.now room.old }
+// Writes the trace of a window and an event list to the front of the room, and answers how many blocks it has.
+pub fn write(base: u32, window: u32, events: &[u8], room: &mut [u8]) -> Result<usize, Refusal>
+    ensures { writing_of (written_of result) room.new ≡ write base window events.now room.old }
 {
-    let number = number(base, window, events, room.len());
-    if number != 0 {
-        return Written { number, blocks: 0 };
-    }
+    check(base, window, events, room.len())?;
     let blocks = needed(events.len());
     blocks::put_all(base, window, events, blocks, room);
-    Written { number, blocks }
+    Ok(blocks)
 }

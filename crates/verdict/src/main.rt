@@ -53,7 +53,7 @@ fn main(rt: HostRuntime) {
         mcla: 0,
     };
     let reason = address_rule::apply(filter, &input[..n]);
-    let number = frame::frame_number(reason, &input[..n]);
+    let number = answer::number_of(&frame::frame_number(reason, &input[..n]));
     let _ = println!(rt; "length {n}");
     let _ = println!(rt; "verdict {number}");
 }

@@ -1,6 +1,6 @@
 -- 02, Wish 8: a register of the pair read and written, with what the current vector address takes into service and ends.
 -- Assumes nothing.
-use Rattle.std.specs.Prelude.{ℕ, ◌%◌, Bool, ◌&&◌, List, eqb, ltb, leb}
+use Rattle.std.specs.Prelude.{ℕ, ◌%◌, Bool, ◌&&◌, Result, Ok, Err, List, eqb, ltb, leb}
 use Rattle.std.specs.Prelude.{if◌then◌else◌}
 use Rattle.vic_controller.specs.declared.Controller.{Controller}
 use Rattle.vic_registers.specs.Access.{register_at, access_number, value_of}
@@ -12,8 +12,30 @@ use Rattle.vic_pair.specs.declared.Which.{Which}
 use Rattle.vic_pair.specs.declared.Which.TheVariants.{Vic0, Vic1}
 use Rattle.vic_pair.specs.Vics.{made}
 use Rattle.vic_answer.specs.Answer.{raised_rank, answered, controller_at, vector_at}
+use Rattle.answer.specs.declared.Refusal.{Refusal}
+use Rattle.answer.specs.Refusals.{refusal_number}
 use Rattle.vic.specs.declared.Found.{Found}
-use Rattle.vic.specs.declared.Change.{Change}
+
+-- ---- what an access gives
+
+-- of a register read, a number of the table, the value read, and the pair that is left; of a register write, all but the value
+pub record ReadOutcome : Type 0 where
+  pub number : ℕ
+  pub value : ℕ
+  pub vics : Vics
+
+pub record WriteOutcome : Type 0 where
+  pub number : ℕ
+  pub vics : Vics
+
+-- the same of what the code answers for a pair. 01, row 2, register not modelled: "value 0, nothing changed"
+abbrev pub read_by : Vics → Result Found Refusal → ReadOutcome
+read_by v (Ok f) = record { number = 0; value = f.value; vics = f.vics }
+read_by v (Err refusal) = record { number = refusal_number refusal; value = 0; vics = v }
+
+abbrev pub write_by : Vics → Result Vics Refusal → WriteOutcome
+write_by v (Ok u) = record { number = 0; vics = u }
+write_by v (Err refusal) = record { number = refusal_number refusal; vics = v }
 
 -- ---- one controller of the pair
 
@@ -43,14 +65,14 @@ with_service v s = made v.vic0 v.vic1 s
 abbrev pub vector_of : Vics → ℕ → ℕ
 vector_of v rank = vector_at (controller_at v rank) (rank % 32)
 
-abbrev pub found : ℕ → Vics → Found
+abbrev pub found : ℕ → Vics → ReadOutcome
 found value v = record { number = 0; value = value; vics = v }
 
 -- "reading the current vector address takes the answer into service at its level then .. with none nothing changes": VIC0's, by 4.3
 -- "the vector address of the interrupt is returned when the CPU reads the VIC0 Current Vector Address Register". With none it is VIC0's
 -- default vector. VIC1's, which 4.3 asks to be read as well, is the vector at the rank of the last taken where that came from VIC1, and 0
 -- elsewhere; it changes nothing (docs/DECISIONS.md, D118)
-unfoldable pub read_vector : Vics → Inputs → Which → Found
+unfoldable pub read_vector : Vics → Inputs → Which → ReadOutcome
 read_vector v i Vic0 =
     if answered v i
     then found (vector_of v (raised_rank v i)) (with_service v (taken v.service (raised_rank v i)))
@@ -68,7 +90,7 @@ write_vector v w =
 -- ---- a register read and written
 
 -- 01, row 2, register not modelled: "value 0, nothing changed"
-unfoldable pub read : Vics → Inputs → Which → ℕ → Found
+unfoldable pub read : Vics → Inputs → Which → ℕ → ReadOutcome
 read v i w offset =
     if eqb offset 0x030 then read_vector v i w else
     record {
@@ -77,7 +99,7 @@ read v i w offset =
       vics = v;
     }
 
-unfoldable pub write : Vics → Which → ℕ → ℕ → Change
+unfoldable pub write : Vics → Which → ℕ → ℕ → WriteOutcome
 write v w offset value =
     if eqb offset 0x030 then record { number = 0; vics = write_vector v w } else
     record {

@@ -3,25 +3,18 @@
 #![tactic(auto)]
 
 ghost use Rattle.std.specs.Prelude.{◌≡◌};
-ghost use Rattle.vic.specs.Access.{controller_of, with_controller, levels_of, came_from, with_service, vector_of, read_vector, write_vector, read, write};
+ghost use Rattle.vic.specs.Access.{controller_of, with_controller, levels_of, came_from, vector_of, found, read_vector, write_vector, read, write, read_by, write_by};
 
+use answer::Refusal;
 use vic_controller::Controller;
 use vic_pair::{Inputs, Vics, Which};
 use vic_registers::Register;
-use vic_service::{RANKS, RANKS_EACH, Service};
+use vic_service::{RANKS, RANKS_EACH};
 
-// A number of the table, the value read, and the pair that is left.
+// The value read, and the pair that is left.
 #[derive(Clone, Copy)]
 pub struct Found {
-    pub number: u32,
     pub value: u32,
-    pub vics: Vics,
-}
-
-// A number of the table, and the pair that is left.
-#[derive(Clone, Copy)]
-pub struct Change {
-    pub number: u32,
     pub vics: Vics,
 }
 
@@ -37,16 +30,9 @@ fn controller_of(vics: Vics, which: Which) -> Controller
 fn with_controller(vics: Vics, which: Which, c: Controller) -> Vics
     ensures { result ≡ with_controller vics which c }
 {
-    let mut next = vics;
     match which {
-        Which::Vic0 => {
-            next.vic0 = c;
-            next
-        }
-        Which::Vic1 => {
-            next.vic1 = c;
-            next
-        }
+        Which::Vic0 => Vics { vic0: c, ..vics },
+        Which::Vic1 => Vics { vic1: c, ..vics },
     }
 }
 
@@ -65,11 +51,7 @@ fn came_from(which: Which, rank: usize) -> bool
 {
     match which {
         Which::Vic0 => rank < RANKS_EACH,
-        Which::Vic1 => if rank < RANKS_EACH {
-            false
-        } else {
-            rank < RANKS
-        },
+        Which::Vic1 => RANKS_EACH <= rank && rank < RANKS,
     }
 }
 
@@ -77,113 +59,90 @@ fn came_from(which: Which, rank: usize) -> bool
 fn vector_of(vics: Vics, rank: usize) -> u32
     ensures { result ≡ vector_of vics rank }
 {
-    if rank < RANKS_EACH {
-        return vic_answer::vector_at(vics.vic0, rank % RANKS_EACH);
-    }
-    vic_answer::vector_at(vics.vic1, rank % RANKS_EACH)
+    let c = if rank < RANKS_EACH {
+        vics.vic0
+    } else {
+        vics.vic1
+    };
+    vic_answer::vector_at(c, rank % RANKS_EACH)
 }
 
-fn with_service(vics: Vics, service: Service) -> Vics
-    ensures { result ≡ with_service vics service }
-{
-    let mut next = vics;
-    next.service = service;
-    next
-}
-
-// VIC0's current vector address read: the answer is taken into service.
-fn taking(vics: Vics, inputs: Inputs) -> Found
-    ensures { result ≡ read_vector vics inputs Which.Vic0 }
-{
-    let rank = vic_answer::raised_rank(vics, inputs);
-    let service = vics.service;
-    if vic_service::last_taken(&service) <= rank {
-        let c = vics.vic0;
-        return Found {
-            number: answer::DONE,
-            value: c.default,
-            vics,
-        };
-    }
-    Found {
-        number: answer::DONE,
-        value: vector_of(vics, rank),
-        vics: with_service(vics, vic_service::taken(service, rank)),
-    }
-}
-
-// VIC1's: the vector of the last taken, where that came from VIC1.
-fn looking(vics: Vics, inputs: Inputs) -> Found
-    ensures { result ≡ read_vector vics inputs Which.Vic1 }
-{
-    let service = vics.service;
-    let last = vic_service::last_taken(&service);
-    if came_from(Which::Vic1, last) {
-        return Found {
-            number: answer::DONE,
-            value: vector_of(vics, last),
-            vics,
-        };
-    }
-    Found {
-        number: answer::DONE,
-        value: 0,
-        vics,
-    }
-}
-
-// A current vector address read.
+// A current vector address read. VIC0's takes the answer into service. VIC1's is the vector of the last taken, where that came from
+// VIC1.
+#[tactic(auto, unfolding(crate::specs::Access::read_vector))]
 fn read_vector(vics: Vics, inputs: Inputs, which: Which) -> Found
-    ensures { result ≡ read_vector vics inputs which }
+    ensures { found result.value result.vics ≡ read_vector vics inputs which }
 {
     match which {
-        Which::Vic0 => taking(vics, inputs),
-        Which::Vic1 => looking(vics, inputs),
+        Which::Vic0 => {
+            let Some(rank) = vic_answer::answered(vics, inputs) else {
+                return Found {
+                    value: vics.vic0.default,
+                    vics,
+                };
+            };
+            Found {
+                value: vector_of(vics, rank),
+                vics: Vics {
+                    service: vic_service::taken(vics.service, rank),
+                    ..vics
+                },
+            }
+        }
+        Which::Vic1 => {
+            let last = vic_service::last_taken(&vics.service);
+            let value = if came_from(which, last) {
+                vector_of(vics, last)
+            } else {
+                0
+            };
+            Found { value, vics }
+        }
     }
 }
 
 // A current vector address written: the last taken ends, where it came from that controller.
+#[tactic(auto, unfolding(crate::specs::Access::write_vector))]
 fn write_vector(vics: Vics, which: Which) -> Vics
     ensures { result ≡ write_vector vics which }
 {
-    let service = vics.service;
-    let last = vic_service::last_taken(&service);
-    if came_from(which, last) {
-        return with_service(vics, vic_service::ended(service, last));
+    let last = vic_service::last_taken(&vics.service);
+    if !came_from(which, last) {
+        return vics;
     }
-    vics
+    Vics {
+        service: vic_service::ended(vics.service, last),
+        ..vics
+    }
 }
 
 // A register read, with the levels of the inputs.
-pub fn read(vics: Vics, inputs: Inputs, which: Which, offset: u32) -> Found
-    ensures { result ≡ read vics inputs which offset }
+#[tactic(auto, unfolding(crate::specs::Access::read))]
+pub fn read(vics: Vics, inputs: Inputs, which: Which, offset: u32) -> Result<Found, Refusal>
+    ensures { read_by vics result ≡ read vics inputs which offset }
 {
     if offset == Controller::VAR {
-        return read_vector(vics, inputs, which);
+        return Ok(read_vector(vics, inputs, which));
     }
     let register = Register::at(offset);
+    Register::access_number(register)?;
     let c = controller_of(vics, which);
-    Found {
-        number: register.access_number(),
+    Ok(Found {
         value: vic_registers::value_of(c, levels_of(inputs, which), register),
         vics,
-    }
+    })
 }
 
-// A register write.
-pub fn write(vics: Vics, which: Which, offset: u32, value: u32) -> Change
-    ensures { result ≡ write vics which offset value }
+// A register write, which gives the pair that is left.
+#[tactic(auto, unfolding(crate::specs::Access::write))]
+pub fn write(vics: Vics, which: Which, offset: u32, value: u32) -> Result<Vics, Refusal>
+    ensures { write_by vics result ≡ write vics which offset value }
 {
     if offset == Controller::VAR {
-        return Change {
-            number: answer::DONE,
-            vics: write_vector(vics, which),
-        };
+        return Ok(write_vector(vics, which));
     }
     let register = Register::at(offset);
+    Register::access_number(register)?;
     let c = vic_write::written(controller_of(vics, which), register, value);
-    Change {
-        number: register.access_number(),
-        vics: with_controller(vics, which, c),
-    }
+    Ok(with_controller(vics, which, c))
 }

@@ -1,5 +1,5 @@
 -- 02, Wish 8: the IRQ answer. The ranks of both controllers run from 0 to 63, and the lower comes first. Assumes nothing.
-use Rattle.std.specs.Prelude.{ℕ, ◌+◌, ◌-◌, ◌%◌, Bool, ltb, get_or}
+use Rattle.std.specs.Prelude.{ℕ, ◌+◌, ◌-◌, ◌%◌, Bool, Option, Some, None, ltb, get_or}
 use Rattle.std.specs.Prelude.{if◌then◌else◌}
 use Rattle.vic_controller.specs.declared.Controller.{Controller}
 use Rattle.vic_controller.specs.Controller.{irq_status}
@@ -9,8 +9,7 @@ use Rattle.vic_pair.specs.declared.Vics.{Vics}
 use Rattle.vic_pair.specs.declared.Inputs.{Inputs}
 use Rattle.vic_pair.specs.declared.Which.{Which}
 use Rattle.vic_pair.specs.declared.Which.TheVariants.{Vic0, Vic1}
-use Rattle.vic_answer.specs.declared.Interrupt.{Interrupt}
-use Rattle.vic_answer.specs.declared.Interrupt.TheVariants.{None, Request}
+use Rattle.vic_answer.specs.declared.Request.{Request}
 
 -- the lowest rank that is raised, enabled and selected for IRQ in a controller; 32 where there is none
 abbrev pub raised_in : Controller → ℕ → ℕ
@@ -37,15 +36,23 @@ vector_at c place = if ltb place 16 then get_or c.addresses place 0 else c.defau
 unfoldable pub input_at : Controller → ℕ → ℕ
 input_at c place = if ltb place 16 then get_or c.controls place 0 % 16 else place - 16
 
--- the request of a rank: its controller, its input and its vector
-abbrev pub request_at : Vics → ℕ → Interrupt
+-- an answer that is a request: its controller, its input and its vector
+abbrev pub request : Which → ℕ → ℕ → Option Request
+request which input vector = Some (record { which = which; input = input; vector = vector })
+
+-- the request of a rank
+abbrev pub request_at : Vics → ℕ → Option Request
 request_at v rank =
-    Request (which_at rank) (input_at (controller_at v rank) (rank % 32)) (vector_at (controller_at v rank) (rank % 32))
+    request (which_at rank) (input_at (controller_at v rank) (rank % 32)) (vector_at (controller_at v rank) (rank % 32))
 
 -- there is a raised, enabled IRQ request "above those in service"
 abbrev pub answered : Vics → Inputs → Bool
 answered v i = ltb (raised_rank v i) (last_taken v.service)
 
+-- its rank, where there is one
+abbrev pub answered_rank : Vics → Inputs → Option ℕ
+answered_rank v i = if answered v i then Some (raised_rank v i) else None
+
 -- "The IRQ answer is the highest raised, enabled IRQ request above those in service, or none exactly if there is none."
-unfoldable pub irq : Vics → Inputs → Interrupt
+unfoldable pub irq : Vics → Inputs → Option Request
 irq v i = if answered v i then request_at v (raised_rank v i) else None

@@ -10,6 +10,7 @@ use lib.Dec.{ltb}
 use lib.ListN.{length, get_or, length-set}
 use lib.Seq.{get_or-set_other}
 use borrow.Author.Tests.{ltb-true, ltb-false, lt-ltb, le-ltb}
+use Rattle.std.specs.Prelude.{Option, Some, None}
 use Rattle.rules.proofs.Choices.{by_bool}
 use Rattle.first_where.proofs.Laws.{first_within, first_holds, first_least}
 use Rattle.vic_controller.specs.declared.Controller.{Controller}
@@ -20,8 +21,8 @@ use Rattle.vic_pair.specs.declared.Vics.{Vics}
 use Rattle.vic_pair.specs.declared.Inputs.{Inputs}
 use Rattle.vic_pair.specs.declared.Which.{Which}
 use Rattle.vic_pair.specs.declared.Which.TheVariants.{Vic0, Vic1}
-use Rattle.vic_answer.specs.declared.Interrupt.TheVariants.{None, Request}
-use Rattle.vic_answer.specs.Answer.{raised_in, raised_rank, vector_at, input_at, request_at, irq}
+use Rattle.vic_answer.specs.declared.Request.{Request}
+use Rattle.vic_answer.specs.Answer.{request, raised_in, raised_rank, vector_at, input_at, request_at, irq}
 use Rattle.vic.specs.Access.{controller_of, with_service}
 use Rattle.vic_claims.specs.Requests.{Sized, Requests, rank_of, vector_in, Above}
 use Rattle.vic_claims.specs.Answers.{Highest, AnswerExactly, RanksApart, Masks}
@@ -44,7 +45,7 @@ vector_back c n =
 
 -- ---- the request of a rank
 
-pub request_back : (v : Vics) → Sized v → (w : Which) (n : ℕ) → n < 16 → request_at v (rank_of v w n) ≡ Request w n (vector_in (controller_of v w) n)
+pub request_back : (v : Vics) → Sized v → (w : Which) (n : ℕ) → n < 16 → request_at v (rank_of v w n) ≡ request w n (vector_in (controller_of v w) n)
 request_back v s Vic0 n h =
     let r = rank_in v.vic0.controls n in
     let k : r < 32 = rank_small v.vic0.controls n h in
@@ -122,11 +123,24 @@ rank_of_small v Vic1 n h = let k = rank_small v.vic1.controls n h in omega arith
 
 -- ---- the answer
 
+-- the parts of a request
+abbrev which_in : Option Request → Which
+which_in None = Vic0
+which_in (Some r) = r.which
+
+abbrev input_in : Option Request → ℕ
+input_in None = 0
+input_in (Some r) = r.input
+
+abbrev pub vector_at_answer : Option Request → ℕ
+vector_at_answer None = 0
+vector_at_answer (Some r) = r.vector
+
 -- where there is one
 pub record Given (v : Vics) (i : Inputs) : Type 0 where
   pub which : Which
   pub input : ℕ
-  pub is : irq v i ≡ Request which input (vector_in (controller_of v which) input)
+  pub is : irq v i ≡ request which input (vector_in (controller_of v which) input)
   pub highest : Highest v i which input (vector_in (controller_of v which) input)
 
 pub answered_is : (v : Vics) (i : Inputs) → raised_rank v i < last_taken v.service → irq v i ≡ request_at v (raised_rank v i)
@@ -175,8 +189,8 @@ answer_exactly =
       one = λ v s i w n a e.
           by_answer v s i
           (λ g.
-          let d = g.is in
-          same v i w g.which n g.input a (vector_in (controller_of v g.which) g.input) (cc) (cc) (cc) g.highest)
+          let d = sym g.is ∙ e in
+          same v i w g.which n g.input a (vector_in (controller_of v g.which) g.input) (ap which_in d) (ap input_in d) (ap vector_at_answer d) g.highest)
           (λ h. let d = silent v i h in let z : ◌≡◌ {A = ℕ} 0 1 = cc in absurd (omega arith));
       none = λ v s i e w n q u.
           by_answer v s i

@@ -1,6 +1,6 @@
 -- The read that takes gives the vector of the answer, and takes its rank. Assumes nothing.
 use Prim.Native.Nat.{ℕ, ◌<◌}
-use mathlib.Core.Path.{◌≡◌, ap, ◌∙◌}
+use mathlib.Core.Path.{◌≡◌, sym, ap, ◌∙◌}
 use mathlib.Core.Bool.{true, false}
 use native.Mathlib.Omega.{arith}
 use borrow.Author.Tests.{ltb-true, ltb-false}
@@ -11,12 +11,11 @@ use Rattle.vic_pair.specs.declared.Vics.{Vics}
 use Rattle.vic_pair.specs.declared.Inputs.{Inputs}
 use Rattle.vic_pair.specs.declared.Which.{Which}
 use Rattle.vic_pair.specs.declared.Which.TheVariants.{Vic0}
-use Rattle.vic_answer.specs.declared.Interrupt.TheVariants.{Request}
-use Rattle.vic_answer.specs.Answer.{raised_rank, answered, irq}
+use Rattle.vic_answer.specs.Answer.{request, raised_rank, answered, irq}
 use Rattle.vic.specs.Access.{with_service, vector_of, found, read_vector, read}
 use Rattle.vic_claims.specs.Requests.{Sized, rank_of}
 use Rattle.vic_claims.specs.Answers.{TakesAnswer}
-use Rattle.vic_claims.proofs.Answered.{answered_is, raised_found, raised_least, answer_exactly, silent}
+use Rattle.vic_claims.proofs.Answered.{vector_at_answer, answered_is, raised_found, raised_least, answer_exactly, silent}
 
 module _ (v : Vics) (i : Inputs) where
   reads_answer : answered v i ≡ true
@@ -29,12 +28,12 @@ module _ (v : Vics) (i : Inputs) where
   reads_none e = rw e
 
   -- the vector of the request that is answered
-  vector_told : answered v i ≡ true → (w : Which) (n a : ℕ) → irq v i ≡ Request w n a → vector_of v (raised_rank v i) ≡ a
+  vector_told : answered v i ≡ true → (w : Which) (n a : ℕ) → irq v i ≡ request w n a → vector_of v (raised_rank v i) ≡ a
   vector_told e w n a h =
-      let d = answered_is v i (ltb-true (raised_rank v i) (last_taken v.service) e) in cc
+      let d = answered_is v i (ltb-true (raised_rank v i) (last_taken v.service) e) in ap vector_at_answer (sym d ∙ h)
 
   -- and its rank
-  rank_told : Sized v → answered v i ≡ true → (w : Which) (n a : ℕ) → irq v i ≡ Request w n a → raised_rank v i ≡ rank_of v w n
+  rank_told : Sized v → answered v i ≡ true → (w : Which) (n a : ℕ) → irq v i ≡ request w n a → raised_rank v i ≡ rank_of v w n
   rank_told s e w n a h =
       let g = answer_exactly.one v s i w n a h in
       let m = raised_least v i w n g.requests in

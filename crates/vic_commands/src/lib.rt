@@ -4,6 +4,7 @@
 ghost use Rattle.std.specs.Prelude.{◌≡◌};
 ghost use Rattle.vic_commands.specs.VicCommands.{reset, which_of, levels_set, vread, vwrite, inputs, irq, fiq, answer_to, given, tells};
 
+use vic::Found;
 use vic_pair::{Inputs, Vics, Which};
 use vic_script::{VicCall, VicCommand};
 
@@ -40,6 +41,7 @@ fn which_of(n: u32) -> Which
     if n == 0 { Which::Vic0 } else { Which::Vic1 }
 }
 
+#[tactic(auto, unfolding(crate::specs::VicCommands::vread))]
 fn vread(
     c: Controllers,
     line: bool,
@@ -50,17 +52,26 @@ fn vread(
 ) -> VicTold
     ensures { given result text.new ≡ tells (vread c line which offset) text.old at }
 {
-    let set = c.inputs;
-    let f = vic::read(c.vics, set.with_line(line), which, offset);
-    let end = reports::read(text, at, b"vread", f.number, f.value);
-    let vics = f.vics;
-    let inputs = c.inputs;
+    let (number, found) = match vic::read(c.vics, c.inputs.with_line(line), which, offset) {
+        Ok(found) => (answer::DONE, found),
+        Err(refusal) => (
+            u32::from(refusal),
+            Found {
+                value: 0,
+                vics: c.vics,
+            },
+        ),
+    };
     VicTold {
-        controllers: Controllers { vics, inputs },
-        end,
+        controllers: Controllers {
+            vics: found.vics,
+            ..c
+        },
+        end: reports::read(text, at, b"vread", number, found.value),
     }
 }
 
+#[tactic(auto, unfolding(crate::specs::VicCommands::vwrite))]
 fn vwrite(
     c: Controllers,
     which: Which,
@@ -71,14 +82,13 @@ fn vwrite(
 ) -> VicTold
     ensures { given result text.new ≡ tells (vwrite c which offset value) text.old at }
 {
-    let w = vic::write(c.vics, which, offset, value);
-    let n = w.number as u64;
-    let end = replies::numbered(text, at, b"vwrite", n);
-    let vics = w.vics;
-    let inputs = c.inputs;
+    let (number, vics) = match vic::write(c.vics, which, offset, value) {
+        Ok(vics) => (answer::DONE, vics),
+        Err(refusal) => (u32::from(refusal), c.vics),
+    };
     VicTold {
-        controllers: Controllers { vics, inputs },
-        end,
+        controllers: Controllers { vics, ..c },
+        end: replies::numbered(text, at, b"vwrite", u64::from(number)),
     }
 }
 
@@ -88,51 +98,43 @@ fn levels_set(set: Inputs, which: Which, value: u32) -> Inputs
 {
     let level = (value % 0x1_0000) as u16;
     match which {
-        Which::Vic0 => Inputs {
-            vic0: level,
-            vic1: set.vic1,
-        },
-        Which::Vic1 => Inputs {
-            vic0: set.vic0,
-            vic1: level,
-        },
+        Which::Vic0 => Inputs { vic0: level, ..set },
+        Which::Vic1 => Inputs { vic1: level, ..set },
     }
 }
 
+#[tactic(auto, unfolding(crate::specs::VicCommands::inputs))]
 fn inputs(c: Controllers, which: Which, value: u32, text: &mut [u8], at: usize) -> VicTold
     ensures { given result text.new ≡ tells (inputs c which value) text.old at }
 {
-    let set = levels_set(c.inputs, which, value);
-    let end = replies::said(text, at, b"inputs");
-    let vics = c.vics;
     VicTold {
-        controllers: Controllers { vics, inputs: set },
-        end,
+        controllers: Controllers {
+            inputs: levels_set(c.inputs, which, value),
+            ..c
+        },
+        end: replies::said(text, at, b"inputs"),
     }
 }
 
+#[tactic(auto, unfolding(crate::specs::VicCommands::irq))]
 fn irq(c: Controllers, line: bool, text: &mut [u8], at: usize) -> VicTold
     ensures { given result text.new ≡ tells (irq c line) text.old at }
 {
-    let set = c.inputs;
-    let answer = vic_answer::irq(c.vics, set.with_line(line));
-    let end = vic_lines::irq(text, at, answer);
+    let answer = vic_answer::irq(c.vics, c.inputs.with_line(line));
     VicTold {
         controllers: c,
-        end,
+        end: vic_lines::irq(text, at, answer),
     }
 }
 
+#[tactic(auto, unfolding(crate::specs::VicCommands::fiq))]
 fn fiq(c: Controllers, line: bool, text: &mut [u8], at: usize) -> VicTold
     ensures { given result text.new ≡ tells (fiq c line) text.old at }
 {
-    let set = c.inputs;
-    let vics = c.vics;
-    let high = vics.fiq(set.with_line(line));
-    let end = replies::either(text, at, high, b"fiq 1", b"fiq 0");
+    let high = c.vics.fiq(c.inputs.with_line(line));
     VicTold {
         controllers: c,
-        end,
+        end: replies::either(text, at, high, b"fiq 1", b"fiq 0"),
     }
 }
 
@@ -141,8 +143,7 @@ pub fn called(c: Controllers, line: bool, call: VicCall, text: &mut [u8], at: us
     ensures { given result text.new ≡ tells (answer_to call.command c line call.vic call.a call.b) text.old at }
 {
     let which = which_of(call.vic);
-    let command = call.command;
-    match command {
+    match call.command {
         VicCommand::Read => vread(c, line, which, call.a, text, at),
         VicCommand::Write => vwrite(c, which, call.a, call.b, text, at),
         VicCommand::Inputs => inputs(c, which, call.a, text, at),

@@ -3,7 +3,7 @@
 #![tactic(auto)]
 
 ghost use Rattle.std.specs.Prelude.{◌≡◌, get_or};
-ghost use Rattle.vic_controller.specs.Controller.{reset, irq_status, fiq_status};
+ghost use Rattle.vic_controller.specs.Controller.{reset, enabled_status, irq_status, fiq_status};
 
 // Software interrupts, enable and selection with a bit for each input, protection, the default vector, and the vector addresses
 // and vector controls of the sixteen slots.
@@ -68,50 +68,51 @@ impl Controller {
     pub fn reset() -> Controller
         ensures { result ≡ reset }
     {
-        let addresses = [Controller::VAIR_RESET; 16];
-        let controls = [Controller::VCIR_RESET; 16];
         Controller {
             software: Controller::SWINTR_RESET,
             enable: Controller::INTER_RESET,
             selection: Controller::INTSR_RESET,
             protection: Controller::PER_RESET,
             default: Controller::DVAR_RESET,
-            addresses,
-            controls,
+            addresses: [Controller::VAIR_RESET; 16],
+            controls: [Controller::VCIR_RESET; 16],
         }
     }
 
-    // The IRQ status, with the levels of the sixteen inputs.
+    // The requests that are raised and enabled, with the levels of the sixteen inputs.
+    fn enabled_status(self, inputs: u16) -> u16
+        ensures { result ≡ enabled_status self inputs }
+    {
+        (inputs | self.software) & self.enable
+    }
+
+    // The IRQ status.
     pub fn irq_status(self, inputs: u16) -> u16
         ensures { result ≡ irq_status self inputs }
     {
-        (inputs | self.software) & self.enable & !self.selection
+        self.enabled_status(inputs) & !self.selection
     }
 
     // The FIQ status.
     pub fn fiq_status(self, inputs: u16) -> u16
         ensures { result ≡ fiq_status self inputs }
     {
-        (inputs | self.software) & self.enable & self.selection
+        self.enabled_status(inputs) & self.selection
     }
 
     // The vector address of a slot; there is none past the last slot.
     pub fn address(self, slot: usize) -> u32
         ensures { result ≡ get_or self.addresses slot 0 }
     {
-        if 16 <= slot {
-            return 0;
-        }
-        self.addresses[slot]
+        self.addresses.get(slot).copied().unwrap_or(0)
     }
 
     // The vector control of a slot.
     pub fn control(self, slot: usize) -> u32
         ensures { result ≡ get_or self.controls slot 0 }
     {
-        if 16 <= slot {
-            return 0;
-        }
-        self.controls[slot] as u32
+        self.controls
+            .get(slot)
+            .map_or(0, |control| u32::from(*control))
     }
 }

@@ -1,11 +1,11 @@
 -- docs/CONSOLE.md: the lines that the commands of the interrupt controllers write. Assumes nothing.
-use Rattle.std.specs.Prelude.{ℕ, Bool, List}
+use Rattle.std.specs.Prelude.{ℕ, Bool, Option, Some, None, List}
 use Rattle.words.specs.Words.{characters}
 use Rattle.replies.specs.Replies.{said, either, numbered}
 use Rattle.reports.specs.Reports.{read as read_line}
+use Rattle.vic_pair.specs.declared.Which.{Which}
 use Rattle.vic_pair.specs.declared.Which.TheVariants.{Vic0, Vic1}
-use Rattle.vic_answer.specs.declared.Interrupt.{Interrupt}
-use Rattle.vic_answer.specs.declared.Interrupt.TheVariants.{None, Request}
+use Rattle.vic_answer.specs.declared.Request.{Request}
 
 -- `vread VIC OFFSET`: `vread N VALUE`
 abbrev pub vread_says : ℕ → ℕ → List ℕ
@@ -20,10 +20,13 @@ abbrev pub inputs_says : List ℕ
 inputs_says = said (characters "inputs")
 
 -- `irq`: `irq none`, or `irq VIC INPUT ADDRESS`
-unfoldable pub irq_says : Interrupt → List ℕ
+abbrev pub irq_word : Which → List ℕ
+irq_word Vic0 = characters "irq 0"
+irq_word Vic1 = characters "irq 1"
+
+unfoldable pub irq_says : Option Request → List ℕ
 irq_says None = said (characters "irq none")
-irq_says (Request Vic0 input vector) = read_line (characters "irq 0") input vector
-irq_says (Request Vic1 input vector) = read_line (characters "irq 1") input vector
+irq_says (Some r) = read_line (irq_word r.which) r.input r.vector
 
 -- `fiq`: `fiq 0` or `fiq 1`
 abbrev pub fiq_says : Bool → List ℕ

@@ -5,6 +5,7 @@ use mathlib.Core.Bool.{Bool, false}
 use mathlib.Core.List.{List, [], ◌∷◌}
 use native.Mathlib.Omega.{arith}
 use lib.Dec.{eqb}
+use Rattle.std.specs.Prelude.{Option, Some, None}
 use lib.ListN.{length, length-set}
 use Rattle.rules.proofs.Choices.{by_bool}
 use Rattle.vic_controller.specs.declared.Controller.{Controller}
@@ -22,7 +23,6 @@ use Rattle.vic_registers.specs.declared.Register.TheVariants.{
   DefaultVector,
   Address,
   Control,
-  Unmodelled,
 }
 use Rattle.vic_registers.specs.Access.{register_at}
 use Rattle.vic_write.specs.Write.{written}
@@ -40,35 +40,35 @@ use Rattle.vic_nesting.proofs.Tellings.{read_takes, read_takes_none, read_looks,
 
 -- ---- one controller
 
-written_sized : (c : Controller) (a : Register) (x : ℕ) → length (written c a x).controls ≡ length c.controls
-written_sized c IrqStatus x = refl
-written_sized c FiqStatus x = refl
-written_sized c RawStatus x = refl
-written_sized c Selection x = refl
-written_sized c Enable x = refl
-written_sized c EnableClear x = refl
-written_sized c Software x = refl
-written_sized c SoftwareClear x = refl
-written_sized c Protection x = refl
-written_sized c DefaultVector x = refl
-written_sized c (Address s) x = refl
-written_sized c (Control s) x = simp length-set
-written_sized c Unmodelled x = refl
+written_sized : (c : Controller) (a : Option Register) (x : ℕ) → length (written c a x).controls ≡ length c.controls
+written_sized c (Some IrqStatus) x = refl
+written_sized c (Some FiqStatus) x = refl
+written_sized c (Some RawStatus) x = refl
+written_sized c (Some Selection) x = refl
+written_sized c (Some Enable) x = refl
+written_sized c (Some EnableClear) x = refl
+written_sized c (Some Software) x = refl
+written_sized c (Some SoftwareClear) x = refl
+written_sized c (Some Protection) x = refl
+written_sized c (Some DefaultVector) x = refl
+written_sized c (Some (Address s)) x = refl
+written_sized c (Some (Control s)) x = simp length-set
+written_sized c None x = refl
 
-written_selection : (c : Controller) (a : Register) (x : ℕ) → c.selection < 2 ^ 16 → (written c a x).selection < 2 ^ 16
-written_selection c IrqStatus x h = h
-written_selection c FiqStatus x h = h
-written_selection c RawStatus x h = h
-written_selection c Selection x h = omega arith
-written_selection c Enable x h = h
-written_selection c EnableClear x h = h
-written_selection c Software x h = h
-written_selection c SoftwareClear x h = h
-written_selection c Protection x h = h
-written_selection c DefaultVector x h = h
-written_selection c (Address s) x h = h
-written_selection c (Control s) x h = h
-written_selection c Unmodelled x h = h
+written_selection : (c : Controller) (a : Option Register) (x : ℕ) → c.selection < 2 ^ 16 → (written c a x).selection < 2 ^ 16
+written_selection c (Some IrqStatus) x h = h
+written_selection c (Some FiqStatus) x h = h
+written_selection c (Some RawStatus) x h = h
+written_selection c (Some Selection) x h = omega arith
+written_selection c (Some Enable) x h = h
+written_selection c (Some EnableClear) x h = h
+written_selection c (Some Software) x h = h
+written_selection c (Some SoftwareClear) x h = h
+written_selection c (Some Protection) x h = h
+written_selection c (Some DefaultVector) x h = h
+written_selection c (Some (Address s)) x h = h
+written_selection c (Some (Control s)) x h = h
+written_selection c None x h = h
 
 -- ---- the pair
 

@@ -6,7 +6,7 @@ ghost use Rattle.std.specs.Prelude.{◌≡◌};
 ghost use Rattle.vic_pair.specs.Vics.{reset, low, with_line, fiq};
 
 use vic_controller::Controller;
-use vic_service::Service;
+use vic_service::{RANKS, Service};
 
 // Both controllers, and the ranks in service: those of VIC0 up to 31, those of VIC1 from 32 on.
 #[derive(Clone, Copy)]
@@ -35,26 +35,19 @@ impl Vics {
     pub fn reset() -> Vics
         ensures { result ≡ reset }
     {
-        let vic0 = Controller::reset();
-        let vic1 = Controller::reset();
-        let service = [false; 64];
         Vics {
-            vic0,
-            vic1,
-            service,
+            vic0: Controller::reset(),
+            vic1: Controller::reset(),
+            service: [false; RANKS],
         }
     }
 
     // FIQ is high.
+    #[tactic(auto, unfolding(crate::specs::Vics::fiq))]
     pub fn fiq(self, inputs: Inputs) -> bool
         ensures { result ≡ fiq self inputs }
     {
-        let vic0 = self.vic0;
-        let vic1 = self.vic1;
-        if vic0.fiq_status(inputs.vic0) != 0 {
-            return true;
-        }
-        vic1.fiq_status(inputs.vic1) != 0
+        self.vic0.fiq_status(inputs.vic0) != 0 || self.vic1.fiq_status(inputs.vic1) != 0
     }
 }
 
@@ -70,18 +63,17 @@ impl Inputs {
     }
 
     // These inputs with ENET's line in its place, whatever stood there.
+    #[tactic(auto, unfolding(crate::specs::Vics::with_line))]
     pub fn with_line(self, line: bool) -> Inputs
         ensures { result ≡ with_line self line }
     {
-        if line {
-            return Inputs {
-                vic0: self.vic0 | Inputs::ENET,
-                vic1: self.vic1,
-            };
-        }
         Inputs {
-            vic0: self.vic0 & !Inputs::ENET,
-            vic1: self.vic1,
+            vic0: if line {
+                self.vic0 | Inputs::ENET
+            } else {
+                self.vic0 & !Inputs::ENET
+            },
+            ..self
         }
     }
 }

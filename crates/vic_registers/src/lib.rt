@@ -1,13 +1,16 @@
 // The registers of an interrupt controller: which stands at an offset, and what it reads as.
 #![tactic(auto)]
 
-ghost use Rattle.std.specs.Prelude.{◌≡◌};
+ghost use Rattle.std.specs.Prelude.{◌≡◌, Some, None};
+ghost use Rattle.std.specs.Prelude.{if◌then◌else◌};
+ghost use Rattle.answer.specs.Refusals.{number_of};
 ghost use Rattle.vic_registers.specs.Access.{slot_at, slot_of, register_at, access_number, value_of};
 
+use answer::Refusal;
 use vic_controller::Controller;
 
-// The registers of a controller by itself, those of a slot by its number, and one case for every other offset. The current vector
-// address is not among them: what a read or a write of it does goes by both controllers.
+// The registers of a controller by itself, those of a slot by its number. The current vector address is not among them: what a read
+// or a write of it does goes by both controllers.
 #[derive(Clone, Copy)]
 pub enum Register {
     IrqStatus,
@@ -22,104 +25,76 @@ pub enum Register {
     DefaultVector,
     Address(usize),
     Control(usize),
-    Unmodelled,
 }
 
-// The offset is that of a slot's register, where slot 0 has `first`.
-fn slot_at(first: u32, offset: u32) -> bool
-    ensures { result ≡ slot_at first offset }
+// The slot whose register stands at an offset, where slot 0 has `first`.
+#[tactic(auto, unfolding(crate::specs::Access::slot_at, crate::specs::Access::slot_of))]
+fn slot_at(first: u32, offset: u32) -> Option<usize>
+    ensures { result ≡ (if slot_at first offset then Some (slot_of first offset) else None) }
 {
-    if offset < first {
-        return false;
+    if first <= offset && offset - first < 64 && offset % 4 == 0 {
+        Some(((offset - first) / 4) as usize)
+    } else {
+        None
     }
-    if 64 <= offset - first {
-        return false;
-    }
-    offset % 4 == 0
-}
-
-// The slot of an offset, where slot 0 has `first`.
-fn slot_of(first: u32, offset: u32) -> usize
-    ensures { result ≡ slot_of first offset }
-{
-    if offset < first {
-        return 0;
-    }
-    ((offset - first) / 4) as usize
 }
 
 impl Register {
-    // The register at an offset.
-    pub fn at(offset: u32) -> Register
+    // The register at an offset, where one is modelled.
+    #[tactic(auto, unfolding(crate::specs::Access::register_at))]
+    pub fn at(offset: u32) -> Option<Register>
         ensures { result ≡ register_at offset }
     {
-        if slot_at(Controller::VA0R, offset) {
-            return Register::Address(slot_of(Controller::VA0R, offset));
+        if let Some(slot) = slot_at(Controller::VA0R, offset) {
+            return Some(Register::Address(slot));
         }
-        if slot_at(Controller::VC0R, offset) {
-            return Register::Control(slot_of(Controller::VC0R, offset));
+        if let Some(slot) = slot_at(Controller::VC0R, offset) {
+            return Some(Register::Control(slot));
         }
         match offset {
-            Controller::ISR => Register::IrqStatus,
-            Controller::FSR => Register::FiqStatus,
-            Controller::RINTSR => Register::RawStatus,
-            Controller::INTSR => Register::Selection,
-            Controller::INTER => Register::Enable,
-            Controller::INTECR => Register::EnableClear,
-            Controller::SWINTR => Register::Software,
-            Controller::SWINTCR => Register::SoftwareClear,
-            Controller::PER => Register::Protection,
-            Controller::DVAR => Register::DefaultVector,
-            _ => Register::Unmodelled,
+            Controller::ISR => Some(Register::IrqStatus),
+            Controller::FSR => Some(Register::FiqStatus),
+            Controller::RINTSR => Some(Register::RawStatus),
+            Controller::INTSR => Some(Register::Selection),
+            Controller::INTER => Some(Register::Enable),
+            Controller::INTECR => Some(Register::EnableClear),
+            Controller::SWINTR => Some(Register::Software),
+            Controller::SWINTCR => Some(Register::SoftwareClear),
+            Controller::PER => Some(Register::Protection),
+            Controller::DVAR => Some(Register::DefaultVector),
+            _ => None,
         }
     }
 
-    // The refusal of an access, 2, or 0.
-    pub fn access_number(self) -> u32
-        ensures { result ≡ access_number self }
+    // The refusal of an access, 2, where no register is modelled.
+    pub fn access_number(register: Option<Register>) -> Result<(), Refusal>
+        ensures { number_of result ≡ access_number register }
     {
-        match self {
-            Register::IrqStatus => answer::DONE,
-            Register::FiqStatus => answer::DONE,
-            Register::RawStatus => answer::DONE,
-            Register::Selection => answer::DONE,
-            Register::Enable => answer::DONE,
-            Register::EnableClear => answer::DONE,
-            Register::Software => answer::DONE,
-            Register::SoftwareClear => answer::DONE,
-            Register::Protection => answer::DONE,
-            Register::DefaultVector => answer::DONE,
-            Register::Address(_) => answer::DONE,
-            Register::Control(_) => answer::DONE,
-            Register::Unmodelled => answer::REGISTER_NOT_MODELLED,
+        match register {
+            Some(_) => Ok(()),
+            None => Err(Refusal::RegisterNotModelled),
         }
     }
 }
 
-// A word of 16 bits, as one of 32.
-fn wide(v: u16) -> u32
-    ensures { result ≡ v }
-{
-    v as u32
-}
-
-// What a register reads as, with the levels of the inputs.
-pub fn value_of(c: Controller, inputs: u16, register: Register) -> u32
+// What a register reads as, with the levels of the inputs; 0 where none is modelled.
+pub fn value_of(c: Controller, inputs: u16, register: Option<Register>) -> u32
     ensures { result ≡ value_of c inputs register }
 {
+    let Some(register) = register else {
+        return 0;
+    };
     match register {
-        Register::IrqStatus => wide(c.irq_status(inputs)),
-        Register::FiqStatus => wide(c.fiq_status(inputs)),
-        Register::RawStatus => wide(inputs | c.software),
-        Register::Selection => wide(c.selection),
-        Register::Enable => wide(c.enable),
-        Register::EnableClear => 0,
-        Register::Software => wide(c.software),
-        Register::SoftwareClear => 0,
-        Register::Protection => if c.protection { 1 } else { 0 },
+        Register::IrqStatus => u32::from(c.irq_status(inputs)),
+        Register::FiqStatus => u32::from(c.fiq_status(inputs)),
+        Register::RawStatus => u32::from(inputs | c.software),
+        Register::Selection => u32::from(c.selection),
+        Register::Enable => u32::from(c.enable),
+        Register::Software => u32::from(c.software),
+        Register::EnableClear | Register::SoftwareClear => 0,
+        Register::Protection => u32::from(c.protection),
         Register::DefaultVector => c.default,
         Register::Address(slot) => c.address(slot),
         Register::Control(slot) => c.control(slot),
-        Register::Unmodelled => 0,
     }
 }

@@ -4,7 +4,7 @@
 ghost use Rattle.std.specs.Prelude.{◌≡◌};
 ghost use Rattle.vic_script.specs.VicCalls.{given, vic_of, alone, write_of, with_words, vic_call_of};
 
-use forms::numbers::{Number, hexadecimal};
+use forms::numbers::hexadecimal;
 use words::{first, is, rest, spaced};
 
 // What is called.
@@ -26,63 +26,47 @@ pub struct VicCall {
     pub b: u32,
 }
 
-// A line that calls the controllers, or another.
-#[derive(Clone, Copy)]
-pub enum VicLine {
-    Calls(VicCall),
-    Other,
-}
-
 // A command with its numbers, if each is right.
-fn given(command: VicCommand, vic: Number, a: Number, b: Number) -> VicLine
+fn given(command: VicCommand, vic: Option<u32>, a: Option<u32>, b: Option<u32>) -> Option<VicCall>
     ensures { result ≡ given command vic a b }
 {
-    let Number::Is(w) = vic else {
-        return VicLine::Other;
-    };
-    let Number::Is(x) = a else {
-        return VicLine::Other;
-    };
-    let Number::Is(y) = b else {
-        return VicLine::Other;
-    };
-    VicLine::Calls(VicCall {
+    Some(VicCall {
         command,
-        vic: w,
-        a: x,
-        b: y,
+        vic: vic?,
+        a: a?,
+        b: b?,
     })
 }
 
 // A controller by its digit.
-fn vic_of(word: &[u8]) -> Number
+fn vic_of(word: &[u8]) -> Option<u32>
     ensures { result ≡ vic_of word.now }
 {
     if is(word, b"0") {
-        return Number::Is(0);
+        return Some(0);
     }
     if is(word, b"1") {
-        return Number::Is(1);
+        return Some(1);
     }
-    Number::Wrong
+    None
 }
 
 // A line of one word.
-fn alone(name: &[u8]) -> VicLine
+fn alone(name: &[u8]) -> Option<VicCall>
     ensures { result ≡ alone name.now }
 {
-    let none = Number::Is(0);
+    let none = Some(0);
     if is(name, b"irq") {
         return given(VicCommand::Irq, none, none, none);
     }
     if is(name, b"fiq") {
         return given(VicCommand::Fiq, none, none, none);
     }
-    VicLine::Other
+    None
 }
 
 // A controller, an offset and a value.
-fn write_of(vic: &[u8], words: &[u8]) -> VicLine
+fn write_of(vic: &[u8], words: &[u8]) -> Option<VicCall>
     ensures { result ≡ write_of vic.now words.now }
 {
     let offset = hexadecimal(first(words));
@@ -91,10 +75,10 @@ fn write_of(vic: &[u8], words: &[u8]) -> VicLine
 }
 
 // A line of three words or more.
-fn with_words(name: &[u8], vic: &[u8], words: &[u8]) -> VicLine
+fn with_words(name: &[u8], vic: &[u8], words: &[u8]) -> Option<VicCall>
     ensures { result ≡ with_words name.now vic.now words.now }
 {
-    let none = Number::Is(0);
+    let none = Some(0);
     if is(name, b"vread") {
         return given(VicCommand::Read, vic_of(vic), hexadecimal(words), none);
     }
@@ -104,11 +88,11 @@ fn with_words(name: &[u8], vic: &[u8], words: &[u8]) -> VicLine
     if is(name, b"vwrite") {
         return write_of(vic, words);
     }
-    VicLine::Other
+    None
 }
 
 // The call of the interrupt controllers that a line names.
-pub fn vic_call_of(line: &[u8]) -> VicLine
+pub fn vic_call_of(line: &[u8]) -> Option<VicCall>
     ensures { result ≡ vic_call_of line.now }
 {
     if !spaced(line) {
@@ -116,7 +100,7 @@ pub fn vic_call_of(line: &[u8]) -> VicLine
     }
     let behind = rest(line);
     if !spaced(behind) {
-        return VicLine::Other;
+        return None;
     }
     with_words(first(line), first(behind), rest(behind))
 }

@@ -1,5 +1,5 @@
 -- 02, Wish 8: a register of a controller written. Assumes nothing.
-use Rattle.std.specs.Prelude.{ℕ, ◌-◌, ◌%◌, ◌^◌, Bool, List, eqb, set}
+use Rattle.std.specs.Prelude.{ℕ, ◌-◌, ◌%◌, ◌^◌, Bool, Option, Some, None, List, eqb, set}
 use Rattle.std.specs.Int.Bits.{bit_and, bit_or}
 use Rattle.vic_controller.specs.declared.Controller.{Controller}
 use Rattle.vic_registers.specs.declared.Register.{Register}
@@ -16,7 +16,6 @@ use Rattle.vic_registers.specs.declared.Register.TheVariants.{
   DefaultVector,
   Address,
   Control,
-  Unmodelled,
 }
 use Rattle.vic_controller.specs.Controller.{made}
 
@@ -65,17 +64,17 @@ control_kept v = bit_and v 0x2f
 -- ---- a register written
 
 -- 01: "A write to a read-only bit is accepted and does nothing"
-abbrev pub written : Controller → Register → ℕ → Controller
-written c IrqStatus v = c
-written c FiqStatus v = c
-written c RawStatus v = c
-written c Selection v = with_selection c (low_half v)
-written c Enable v = with_enable c (bits_set c.enable v)
-written c EnableClear v = with_enable c (bits_cleared c.enable v)
-written c Software v = with_software c (bits_set c.software v)
-written c SoftwareClear v = with_software c (bits_cleared c.software v)
-written c Protection v = with_protection c (eqb (v % 2) 1)
-written c DefaultVector v = with_default c v
-written c (Address slot) v = with_addresses c (set c.addresses slot v)
-written c (Control slot) v = with_controls c (set c.controls slot (control_kept v))
-written c Unmodelled v = c
+abbrev pub written : Controller → Option Register → ℕ → Controller
+written c (Some IrqStatus) v = c
+written c (Some FiqStatus) v = c
+written c (Some RawStatus) v = c
+written c (Some Selection) v = with_selection c (low_half v)
+written c (Some Enable) v = with_enable c (bits_set c.enable v)
+written c (Some EnableClear) v = with_enable c (bits_cleared c.enable v)
+written c (Some Software) v = with_software c (bits_set c.software v)
+written c (Some SoftwareClear) v = with_software c (bits_cleared c.software v)
+written c (Some Protection) v = with_protection c (eqb (v % 2) 1)
+written c (Some DefaultVector) v = with_default c v
+written c (Some (Address slot)) v = with_addresses c (set c.addresses slot v)
+written c (Some (Control slot)) v = with_controls c (set c.controls slot (control_kept v))
+written c None v = c

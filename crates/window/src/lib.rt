@@ -5,58 +5,55 @@
 ghost use Rattle.std.specs.Prelude.{◌≡◌};
 ghost use Rattle.window.specs.Window.{window_allowed, lent, offset, in_window, holds_descriptor};
 
-// A window that a bench may have.
-pub fn window_allowed(base: u32, window: u32) -> bool
-    ensures { result ≡ window_allowed base window }
-{
-    if window < 64 {
-        return false;
-    }
-    if 65536 < window {
-        return false;
-    }
-    if window % 4 != 0 {
-        return false;
-    }
-    if base % 4 != 0 {
-        return false;
-    }
-    base as u64 + window as u64 <= 0x1_0000_0000
+// Where the device sees lent memory, and how many bytes of it.
+#[derive(Clone, Copy, Debug, PartialEq, Eq)]
+pub struct Window {
+    pub base: u32,
+    pub length: u32,
 }
 
-// The lent memory is of the window's length.
-pub fn lent(window: u32, m: &[u8]) -> bool
-    ensures { result ≡ lent window m.now }
-{
-    m.len() == window as usize
-}
-
-// Where an address lies in the lent memory.
-pub fn offset(base: u32, address: u32) -> usize
-    ensures { result ≡ offset base address }
-{
-    if address < base {
-        return 0;
+impl Window {
+    // A bench may have it.
+    #[tactic(auto, unfolding(crate::specs::Window::window_allowed))]
+    pub fn allowed(self) -> bool
+        ensures { result ≡ window_allowed self.base self.length }
+    {
+        64 <= self.length
+            && self.length <= 65536
+            && self.length % 4 == 0
+            && self.base % 4 == 0
+            && u64::from(self.base) + u64::from(self.length) <= 0x1_0000_0000
     }
-    (address - base) as usize
-}
 
-// n bytes from an address on lie in the window.
-pub fn in_window(base: u32, window: u32, address: u32, n: u32) -> bool
-    ensures { result ≡ in_window base window address n }
-{
-    if address < base {
-        return false;
+    // The lent memory is of the window's length.
+    #[tactic(auto, unfolding(crate::specs::Window::lent))]
+    pub fn lent(self, m: &[u8]) -> bool
+        ensures { result ≡ lent self.length m.now }
+    {
+        m.len() == self.length as usize
     }
-    address as u64 + n as u64 <= base as u64 + window as u64
-}
 
-// A descriptor at this address stands at a multiple of 4 and lies all in the window.
-pub fn holds_descriptor(base: u32, window: u32, address: u32) -> bool
-    ensures { result ≡ holds_descriptor base window address }
-{
-    if !address::aligned(address) {
-        return false;
+    // Where an address lies in the lent memory.
+    pub fn offset(self, address: u32) -> usize
+        ensures { result ≡ offset self.base address }
+    {
+        address.saturating_sub(self.base) as usize
     }
-    in_window(base, window, address, 16)
+
+    // n bytes from an address on lie in it.
+    #[tactic(auto, unfolding(crate::specs::Window::in_window))]
+    pub fn holds(self, address: u32, n: u32) -> bool
+        ensures { result ≡ in_window self.base self.length address n }
+    {
+        self.base <= address
+            && u64::from(address) + u64::from(n) <= u64::from(self.base) + u64::from(self.length)
+    }
+
+    // A descriptor at this address stands at a multiple of 4 and lies all in it.
+    #[tactic(auto, unfolding(crate::specs::Window::holds_descriptor))]
+    pub fn holds_descriptor(self, address: u32) -> bool
+        ensures { result ≡ holds_descriptor self.base self.length address }
+    {
+        address::aligned(address) && self.holds(address, 16)
+    }
 }

@@ -1,39 +1,22 @@
 -- What `put_wire` leaves, from what its calls leave; and the length of a frame out. Assumes nothing.
 use mathlib.Core.Path.{◌≡◌, refl, sym, ap, ◌∙◌}
 use mathlib.Core.Bool.{Bool, true, false, not}
-use mathlib.Core.List.{List, ◌∷◌, ◌++◌}
-use Prim.Native.Nat.{ℕ, zero, suc, ◌+◌, ◌-◌, ◌≤◌, ◌<◌}
+use mathlib.Core.List.{List, ◌++◌}
+use Prim.Native.Nat.{ℕ, ◌+◌, ◌-◌, ◌≤◌}
 use native.Mathlib.Omega.{arith}
-use borrow.Author.Tests.{leb-true, lt-ltb, le-ltb, le-leb, lt-leb}
-use lib.Dec.{leb, ltb}
-use lib.ListN.{length, take, drop, replicate, length-append, length-replicate}
+use borrow.Author.Tests.{leb-true, le-leb}
+use borrow.Rule.Slice.PartMut.{put_mid, Post-is}
+use lib.Dec.{leb}
+use lib.ListN.{length, take, drop, replicate, length-append, length-replicate, length-take, length-drop}
 use lib.Seq.{sets-eq}
-use Rattle.rules.proofs.Choices.{said_yes, said_no, and_parts, is_and, is_and_no, is_or, is_or_yes}
+use Rattle.std.specs.Prelude.{max}
+use Rattle.std.proofs.lemmas.List.{append_assoc}
+use Rattle.rules.proofs.Choices.{said_yes, said_no, and_parts}
 use Rattle.memory.specs.Memory.{store}
 use Rattle.memory.proofs.Stores.{length_store, part_back, store_append}
 use Rattle.fcs.specs.CheckSequence.{check_sequence, closed}
 use Rattle.fcs.proofs.Meaning.{length_sequence}
-use Rattle.wire.specs.Wire.{send_length_wrong, padded, wire, wire_fits, wire_put, wire_count}
-
--- ---- send_length_wrong
-
-pub under_14 : (n : ℕ) → n < 14 → true ≡ send_length_wrong n
-unfolding send_length_wrong
-under_14 n h = is_or_yes (ltb n 14) (ltb 1514 n) (lt-ltb n 14 h)
-
-pub from_14 : (n : ℕ) → 14 ≤ n → ltb 1514 n ≡ send_length_wrong n
-unfolding send_length_wrong
-from_14 n h = is_or (ltb n 14) (ltb 1514 n) (ltb 1514 n) (le-ltb n 14 h) refl
-
--- ---- wire_fits
-
-pub over_1514 : (out p : List ℕ) → 1514 < length p → false ≡ wire_fits out p
-unfolding wire_fits
-over_1514 out p h = is_and_no (leb (length p) 1514) (leb 1518 (length out)) (lt-leb (length p) 1514 h)
-
-pub up_to_1514 : (out p : List ℕ) → length p ≤ 1514 → leb 1518 (length out) ≡ wire_fits out p
-unfolding wire_fits
-up_to_1514 out p h = is_and (leb (length p) 1514) (leb 1518 (length out)) (leb 1518 (length out)) (le-leb (length p) 1514 h) refl
+use Rattle.wire.specs.Wire.{padded, wire, wire_fits, wire_put, wire_count}
 
 -- ---- lengths
 
@@ -82,19 +65,19 @@ close_front s m k e h =
 
 -- ---- the ways out
 
--- a part of a row of zeros
-zeros_part : (k n : ℕ) → k ≤ n → take {A = ℕ} k (replicate n 0) ≡ replicate k 0
-zeros_part zero n h = refl
-zeros_part (suc k) zero h = absurd (omega arith)
-zeros_part (suc k) (suc n) h = ap {B = List ℕ} (λ l. 0 ∷ l) (zeros_part k n (omega arith))
-
-pub padding : (out o : List ℕ) (n : ℕ) → o ≡ store out n (take {A = ℕ} (60 - n) (replicate 60 0))
-    → o ≡ store out n (replicate (60 - n) 0)
-padding out o n e = e ∙ ap (store out n) (zeros_part (60 - n) 60 (omega arith))
-
-pub no_padding : (out : List ℕ) (n : ℕ) → 60 ≤ n → out ≡ store out n (replicate (60 - n) 0)
-unfolding store
-no_padding out n h = let e : 60 - n ≡ 0 = omega arith in rw e
+-- zeros written from n to 60, or to n where that is more
+pub padding : (out z : List ℕ) (n k : ℕ) → k ≡ max n 60 → k ≤ length out → z ≡ replicate (length (take (k - n) (drop n out))) 0
+    → put_mid n (k - n) out z ≡ store out n (replicate (60 - n) 0)
+padding out z n k ek h ez =
+    let l : length (take (k - n) (drop n out)) ≡ 60 - n = simp (length-take, length-drop) (omega arith) in
+    let y : z ≡ replicate (60 - n) 0 = ez ∙ ap (λ (i : ℕ). replicate {A = ℕ} i 0) l in
+    let lz : length z ≡ 60 - n = rw y (length-replicate (60 - n) 0) in
+    let e : n + (60 - n) ≡ k = omega arith in
+    rw (Post-is n k out (omega arith)) (
+    sym (append_assoc (take n out) z (drop k out))
+    ∙ ap (λ (i : ℕ). take n out ++ z ++ drop i out) (sym e)
+    ∙ sym (store_eq z out n (60 - n) lz (omega arith))
+    ∙ ap (store out n) y)
 
 module _ (out p : List ℕ) (r : Bool) (e : r ≡ wire_fits out p) (h : not r ≡ true) where
   pub none_counted : 0 ≡ wire_count out p
@@ -110,6 +93,9 @@ fits_lengths : (out p : List ℕ) → wire_fits out p ≡ true → (length p ≤
 unfolding wire_fits
 fits_lengths out p h =
     let t = and_parts (leb (length p) 1514) (leb 1518 (length out)) h in (leb-true _ _ t.0, leb-true _ _ t.1)
+
+pub lengths : (out p : List ℕ) (r : Bool) → r ≡ wire_fits out p → not r ≡ false → (length p ≤ 1514) × (1518 ≤ length out)
+lengths out p r e h = fits_lengths out p (said_yes (wire_fits out p) r e h)
 
 pub all_counted : (out p : List ℕ) (r : Bool) (k : ℕ) → r ≡ wire_fits out p → not r ≡ false → k ≡ length p + (60 - length p)
     → k + 4 ≡ wire_count out p

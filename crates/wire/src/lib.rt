@@ -1,45 +1,23 @@
 // The bytes of a frame out: padding and check sequence, put at the front of an output.
 #![tactic(auto)]
 
-ghost use Rattle.std.specs.Prelude.{◌≡◌, ◌+◌, ◌-◌, replicate};
-ghost use Rattle.memory.specs.Memory.{store};
+ghost use Rattle.std.specs.Prelude.{◌≡◌};
 ghost use Rattle.wire.specs.Wire.{send_length_wrong, wire_fits, wire_put, wire_count};
 
 // Under 14 or over 1,514.
+#[tactic(auto, unfolding(crate::specs::Wire::send_length_wrong))]
 pub fn send_length_wrong(n: u32) -> bool
     ensures { result ≡ send_length_wrong n }
 {
-    if n < 14 {
-        return true;
-    }
-    1514 < n
+    n < 14 || 1514 < n
 }
 
 // The payload may be put into the output.
+#[tactic(auto, unfolding(crate::specs::Wire::wire_fits))]
 fn wire_fits(out: &[u8], payload: &[u8]) -> bool
     ensures { result ≡ wire_fits out.now payload.now }
 {
-    if 1514 < payload.len() {
-        return false;
-    }
-    1518 <= out.len()
-}
-
-// Zeros behind the first n bytes, up to 60.
-fn pad(out: &mut [u8], n: usize)
-    ensures { out.new ≡ store out.old n (replicate (60 - n) 0) }
-{
-    if n < 60 {
-        let zeros = [0u8; 60];
-        memory::store(out, n, &zeros[..60 - n]);
-    }
-}
-
-// How many bytes a payload has once it is padded.
-fn padded_length(n: usize) -> usize
-    ensures { result ≡ n + (60 - n) }
-{
-    if n < 60 { 60 } else { n }
+    payload.len() <= 1514 && 1518 <= out.len()
 }
 
 // Puts the payload, its padding and the check sequence at the front of the output. Answers how many
@@ -52,9 +30,9 @@ pub fn put_wire(out: &mut [u8], payload: &[u8]) -> usize
         return 0;
     }
     let n = payload.len();
+    let k = n.max(60);
     memory::store(out, 0, payload);
-    pad(out, n);
-    let k = padded_length(n);
+    out[n..k].fill(0);
     fcs::close(out, k);
     k + 4
 }

@@ -1,29 +1,43 @@
 -- Laws of words: where a line is cut, and words compared. Assumes nothing.
-use mathlib.Core.Path.{◌≡◌, sym}
+use mathlib.Core.Path.{◌≡◌, sym, ◌∙◌}
 use mathlib.Core.Bool.{Bool, true, false}
-use mathlib.Core.List.{List}
-use Prim.Native.Nat.{ℕ, ◌+◌, ◌-◌}
+use mathlib.Core.List.{List, []}
+use Prim.Native.Nat.{ℕ, ◌+◌, ◌-◌, ◌<◌}
 use native.Mathlib.Omega.{arith}
+use borrow.Author.Tests.{lt-ltb, le-ltb}
 use lib.ListN.{length, take, drop, drop_of_length-le, length-drop}
-use lib.Seq.{take_all, take-nil}
+use lib.Dec.{ltb}
+use lib.Seq.{take_all}
+use Rattle.std.specs.Prelude.{Option, Some, None, is_some, unwrap_or, IfSome}
 use Rattle.scanning.specs.Scanning.{index_of}
 use Rattle.std.specs.Prelude.{if◌then◌else◌}
-use Rattle.words.specs.Words.{first, rest}
+use Rattle.words.specs.Words.{spaced, first, rest}
 
-pub first_is : (s : List ℕ) (n : ℕ) → n ≡ index_of 32 s → take n s ≡ first s
-unfolding first
-first_is s n e = rw e
+a_place : (o : Option ℕ) (n : ℕ) → IfSome o (λ i. i < n) → is_some o ≡ ltb (unwrap_or o n) n
+a_place None n f = sym (le-ltb n n (omega arith))
+a_place (Some i) n f = sym (lt-ltb i n f)
 
--- nothing follows where there is no space
-pub rest_none : (s : List ℕ) (n : ℕ) → n ≡ index_of 32 s → n ≡ length s → take (length s - n) (drop n s) ≡ rest s
-unfolding rest
-rest_none s n e h =
-    rw (drop_of_length-le s {i = n} (omega arith), take-nil (length s - n))
-    (sym (drop_of_length-le s {i = index_of 32 s + 1} (omega arith)))
+-- the place of the first space, if there is one
+module _ (s : List ℕ) (o : Option ℕ) (e : unwrap_or o (length s) ≡ index_of 32 s) where
+  pub spaced_is : (r : Bool) → IfSome o (λ i. i < length s) → r ≡ is_some o → r ≡ spaced s
+  unfolding spaced
+  spaced_is r f h = rw (← e) (h ∙ a_place o (length s) f)
 
-pub rest_is : (s : List ℕ) (n : ℕ) → n ≡ index_of 32 s → take (length s - (n + 1)) (drop (n + 1) s) ≡ rest s
-unfolding rest
-rest_is s n e = rw (← e) (take_all (length s - (n + 1)) (drop (n + 1) s) (omega (arith, length-drop (n + 1) s)))
+  pub first_is : (n : ℕ) → o ≡ Some n → take n s ≡ first s
+  unfolding first
+  first_is n p = rw (← e, p)
+
+  pub first_all : o ≡ None → s ≡ first s
+  unfolding first
+  first_all p = rw (← e, p) (sym (take_all (length s) s (omega arith)))
+
+  pub rest_is : (n : ℕ) → o ≡ Some n → take (length s - (n + 1)) (drop (n + 1) s) ≡ rest s
+  unfolding rest
+  rest_is n p = rw (← e, p) (take_all (length s - (n + 1)) (drop (n + 1) s) (omega (arith, length-drop (n + 1) s)))
+
+  pub rest_none : o ≡ None → [] ≡ rest s
+  unfolding rest
+  rest_none p = rw (← e, p) (sym (drop_of_length-le s {i = length s + 1} (omega arith)))
 
 -- ---- a name that was tested by a call, and is the one asked for or not
 

@@ -1,15 +1,11 @@
--- `address_rule::group` meets its contract. Assumes nothing.
-use Rattle.address_rule.proofs.Exits.{hash_takes, hash_refuses, mode_takes, mode_refuses}
+use Rattle.address_rule.proofs.Exits.{hash_decides, mode_takes, mode_refuses}
 use Rattle.address_rule.proofs.group.Goals as goal
 
-pub returns-then-accepts : goal.returns-then-accepts
-returns-then-accepts c = search hash_takes
+pub returns-in-1 : goal.returns-in-1
+returns-in-1 c = search hash_decides
 
-pub returns-then-mode-eq-MULTICAST_HASH : goal.returns-then-mode-eq-MULTICAST_HASH
-returns-then-mode-eq-MULTICAST_HASH c = search hash_refuses
+pub returns-in-5 : goal.returns-in-5
+returns-in-5 c = search mode_takes
 
-pub returns-then-mode-eq-ALL_MULTICAST : goal.returns-then-mode-eq-ALL_MULTICAST
-returns-then-mode-eq-ALL_MULTICAST c = search mode_takes
-
-pub returns : goal.returns
-returns c = search mode_refuses
+pub returns-in_default : goal.returns-in_default
+returns-in_default c = search mode_refuses

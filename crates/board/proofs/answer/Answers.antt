@@ -1,8 +1,8 @@
 use Rattle.board.proofs.Laws.{answer_calls, answer_other}
 use Rattle.board.proofs.answer.Goals as goal
 
-pub returns-in-Calls : goal.returns-in-Calls
-returns-in-Calls c = search answer_calls
+pub returns-in-Some : goal.returns-in-Some
+returns-in-Some c = search answer_calls
 
-pub returns-in-Other : goal.returns-in-Other
-returns-in-Other c = search answer_other
+pub returns-in-None : goal.returns-in-None
+returns-in-None c = search answer_other

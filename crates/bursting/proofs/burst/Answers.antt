@@ -1,5 +1,6 @@
 -- `bursting::burst` meets its contract. Assumes nothing.
 use borrow.Author.Rules.{rules}
+use mathlib.Core.Path.{refl}
 use Rattle.commands.proofs.Laws.{within_long}
 use Rattle.bursting.proofs.Laws.{burst_made}
 use Rattle.bursting.proofs.burst.Goals as goal
@@ -15,4 +16,4 @@ returns c =
     let p = c.part-store in
     let e = c.args in
     burst_made _ _ _ _ c.within-p.result c.rest.ensures c.rest-words.ensures c.within-p.ensures _ c.rest-behind.ensures
-    _ _ _ _ e.room _ _ _ _ _ _ _ _ _ c.blank-bytes.ensures c.first.ensures c.decode-n.ensures p.ensures c.numbers-starts.ensures.0 c.rest-2.ensures c.numbers-lengths.ensures.0 c.call.ensures
+    _ _ _ _ e.room _ _ _ _ _ _ _ _ _ refl c.first.ensures c.decode-n.ensures p.ensures c.numbers-starts.ensures.0 c.rest-2.ensures c.numbers-lengths.ensures.0 c.call.ensures

@@ -17,12 +17,11 @@ slice_bounds-burst-end-2 c = search (rules, within_long)
 pub returns : goal.returns
 returns c =
     let e = c.args in
-    let a = c.longest-all in
     let k = c.within-k in
     let n = c.within-n in
     let h = c.listed-end in
     let seen = within_seen _ _ _ _ refl n.ensures in
     let kept = within_kept _ _ _ _ refl n.ensures in
-    let cut = within_seen a.result _ _ _ a.ensures.1 k.ensures in
-    call_made _ _ _ a.result _ _ _ _ _ _ _ _ n.result k.result e.room _ seen kept
-    a.ensures.0 cut _ c.burst-a.ensures h.ensures c.next.ensures
+    let cut = within_seen _ _ _ _ refl k.ensures in
+    call_made _ _ _ _ _ _ _ _ _ _ _ _ n.result k.result e.room _ seen kept
+    refl cut _ c.burst-a.ensures h.ensures c.next.ensures

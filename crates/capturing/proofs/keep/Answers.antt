@@ -7,8 +7,9 @@ returns-then-number-ne0 c = search not_done
 pub returns-then-before : goal.returns-then-before
 returns-then-before c = search already_full
 
-pub returns-then-end-eq0 : goal.returns-then-end-eq0
-returns-then-end-eq0 c = search no_room
+pub returns-in-Some : goal.returns-in-Some
+returns-in-Some c =
+    has_room _ _ _ _ _ c.if-number-ne0.false c.if-before.false _ _ c.put.ensures.end c.put.ensures.after _ c.in-Some.is
 
-pub returns : goal.returns
-returns c = search has_room
+pub returns-in-None : goal.returns-in-None
+returns-in-None c = no_room _ _ _ _ _ c.if-number-ne0.false c.if-before.false _ _ c.put.ensures.end c.put.ensures.after c.in-None.is

@@ -7,15 +7,15 @@ returns-then-list-place c = search at_ways
 pub returns-then-n-eq0 : goal.returns-then-n-eq0
 returns-then-n-eq0 c = search at_ways
 
-pub returns-then-first-eq1 : goal.returns-then-first-eq1
-returns-then-first-eq1 c = search at_ways
+pub returns-in-1 : goal.returns-in-1
+returns-in-1 c = search at_ways
 
-pub returns-then-first-eq2 : goal.returns-then-first-eq2
-returns-then-first-eq2 c = search at_ways
+pub returns-in-2 : goal.returns-in-2
+returns-in-2 c = search at_ways
 
-pub returns-then-first-eq3 : goal.returns-then-first-eq3
-returns-then-first-eq3 c =
-    at_frame _ _ _ _ _ c.if-list-place.false c.byte-first.ensures c.word-four.ensures c.size-n.ensures c.if-n-eq0.false c.if-first-eq3.true
+pub returns-in-3 : goal.returns-in-3
+returns-in-3 c =
+    at_frame _ _ _ _ _ c.if-list-place.false c.byte-first.ensures c.word-four.ensures c.size-n.ensures c.if-n-eq0.false c.in-3.is
 
-pub returns : goal.returns
-returns c = search at_ways
+pub returns-in_default : goal.returns-in_default
+returns-in_default c = search at_ways

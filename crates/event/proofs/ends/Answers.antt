@@ -10,6 +10,6 @@ pub returns-then-begins : goal.returns-then-begins
 unfolding ending_by
 returns-then-begins c = search choices
 
-pub returns : goal.returns
+pub returns-else-begins : goal.returns-else-begins
 unfolding ending_by
-returns c = search choices
+returns-else-begins c = search choices

@@ -6,6 +6,6 @@ pub returns-then-begins : goal.returns-then-begins
 unfolding none_by
 returns-then-begins c = search choices
 
-pub returns : goal.returns
+pub returns-else-begins : goal.returns-else-begins
 unfolding none_by
-returns c = search choices
+returns-else-begins c = search choices

@@ -1,3 +1,4 @@
+use borrow.Author.Tests.{ne_eqb, lt-ltb, le-ltb}
 use Rattle.rules.proofs.Choices.{choices}
 use Rattle.event.specs.Sizes.{size_by}
 use Rattle.event.proofs.size.Goals as goal
@@ -6,26 +7,27 @@ pub returns-then-left-eq0 : goal.returns-then-left-eq0
 unfolding size_by
 returns-then-left-eq0 c = search choices
 
-pub returns-then-first-eq1 : goal.returns-then-first-eq1
+pub returns-in-1 : goal.returns-in-1
 unfolding size_by
-returns-then-first-eq1 c = search choices
+returns-in-1 c = search choices
 
-pub returns-then-first-eq2 : goal.returns-then-first-eq2
+pub returns-in-2 : goal.returns-in-2
 unfolding size_by
-returns-then-first-eq2 c = search choices
+returns-in-2 c = rw (c.in-2.is, ne_eqb _ 0 c.if-left-eq0.false) c.within-in-2.ensures
 
 pub returns-then-left-lt5 : goal.returns-then-left-lt5
 unfolding size_by
-returns-then-left-lt5 c = search choices
+returns-then-left-lt5 c = rw (c.in-3.is, ne_eqb _ 0 c.if-left-eq0.false, lt-ltb _ 5 c.if-left-lt5.true)
 
-pub returns-then-first-eq3 : goal.returns-then-first-eq3
+pub returns-else-left-lt5 : goal.returns-else-left-lt5
 unfolding size_by
-returns-then-first-eq3 c = search choices
+returns-else-left-lt5 c =
+    rw (c.in-3.is, ne_eqb _ 0 c.if-left-eq0.false, le-ltb _ 5 c.if-left-lt5.false) c.within-else-left-lt5.ensures
 
-pub returns-then-first-eq4 : goal.returns-then-first-eq4
+pub returns-in-4 : goal.returns-in-4
 unfolding size_by
-returns-then-first-eq4 c = search choices
+returns-in-4 c = rw (c.in-4.is, ne_eqb _ 0 c.if-left-eq0.false)
 
-pub returns-else-first-eq4 : goal.returns-else-first-eq4
+pub returns-in_default : goal.returns-in_default
 unfolding size_by
-returns-else-first-eq4 c = search choices
+returns-in_default c = search choices

@@ -1,7 +1,7 @@
 -- `fcs::check_number` meets its contract. Assumes nothing.
 use mathlib.Core.Path.{sym, ap, ◌∙◌}
 use Prim.Native.Nat.{ℕ, ◌-◌}
-use native.Mathlib.Omega.{arith}
+use Rattle.std.proofs.Common.{rules}
 use Rattle.fcs.specs.ShiftRegister.{all_ones}
 use Rattle.fcs.proofs.ByteIn.{bytes_bits}
 use Rattle.fcs.proofs.Register.{by_register}
@@ -10,4 +10,4 @@ use Rattle.fcs.proofs.check_number.Goals as goal
 pub returns : goal.returns
 returns c =
     let s = c.args.bytes.now in
-    ap (λ (x : ℕ). all_ones - x) (c.bytes_in.ensures ∙ bytes_bits s (λ i. omega (arith, c.shared_slice_known-1.given i)) all_ones) ∙ sym (by_register s)
+    ap (λ (x : ℕ). all_ones - x) (c.bytes_in.ensures ∙ bytes_bits s (search rules) all_ones) ∙ sym (by_register s)

@@ -1,16 +1,16 @@
 -- `fcs::check_right` meets its contract. Assumes nothing.
+use mathlib.Core.Path.{ap, ◌∙◌}
 use native.Mathlib.Omega.{arith}
-use lib.ListN.{length-take}
+use Rattle.std.proofs.Common.{rules}
+use Rattle.fcs.specs.CheckSequence.{check_number}
 use Rattle.fcs.proofs.FourBytes.{too_short, tested}
 use Rattle.fcs.proofs.check_right.Goals as goal
 
-pub returns-then-n-lt4 : goal.returns-then-n-lt4
-returns-then-n-lt4 c = too_short c.args.frame.now c.if-n-lt4.true
+pub returns-in-Some : goal.returns-in-Some
+returns-in-Some c =
+    let p = c.in-Some.ensures.cases in
+    tested c.args.frame.now c.in-Some.sequence.now _ _ (omega (arith, p.2)) (search rules) p.1 c.from_le_bytes.ensures
+    (c.check_number.ensures ∙ ap check_number p.0)
 
-pub slice_bounds-check_number-end : goal.slice_bounds-check_number-end
-slice_bounds-check_number-end c = simp length-take (omega arith)
-
-pub returns : goal.returns
-returns c =
-    let f = c.args.frame.now in
-    tested f _ _ _ _ _ c.if-n-lt4.false c.check_number-check.ensures c.wide-a.ensures c.wide-b.ensures c.wide-c.ensures c.wide-d.ensures
+pub returns-in-None : goal.returns-in-None
+returns-in-None c = too_short _ c.in-None.ensures.cases

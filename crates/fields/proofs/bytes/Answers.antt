@@ -3,8 +3,8 @@ use Rattle.text.proofs.Laws.{put_within}
 use Rattle.fields.proofs.Laws.{bytes_none, bytes_some}
 use Rattle.fields.proofs.bytes.Goals as goal
 
-pub returns-then-s-eq0 : goal.returns-then-s-eq0
-returns-then-s-eq0 c = search bytes_none
+pub returns-then-is_empty : goal.returns-then-is_empty
+returns-then-is_empty c = search bytes_none
 
 pub pairs-requires : goal.pairs-requires
 pairs-requires c = search put_within

@@ -6,9 +6,9 @@ use Rattle.text.specs.Text.{put}
 use Rattle.fields.specs.Fields.{pairs}
 use Rattle.fields.proofs.pairs.Given as goal
 
-abbrev pub invariant-loop-i : goal.invariant-loop-i
-invariant-loop-i l =
-    (put l.text l.end (pairs (drop l.i l.s)) ≡ put l.initial.text l.initial.end (pairs l.s)) × ((l.i ≤ length l.s) × ((length l.text ≡ length l.initial.text) × (l.end ≤ length l.text)))
+abbrev pub invariant-loop-b : goal.invariant-loop-b
+invariant-loop-b l =
+    (put l.text l.end (pairs (drop l.b-index l.s)) ≡ put l.initial.text l.initial.end (pairs l.s)) × ((l.b-index ≤ length l.s) × ((length l.text ≡ length l.initial.text) × (l.end ≤ length l.text)))
 
-abbrev pub decreases-loop-i : goal.decreases-loop-i
-decreases-loop-i l = length l.s - l.i
+abbrev pub decreases-loop-b : goal.decreases-loop-b
+decreases-loop-b l = length l.s - l.b-index

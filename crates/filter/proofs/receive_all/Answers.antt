@@ -1,6 +1,5 @@
--- `filter::receive_all` meets its contract: the code computes what the definition says. Assumes nothing.
-use mathlib.Core.Path.{refl}
+use Rattle.filter.proofs.Laws.{receive_all_bit}
 use Rattle.filter.proofs.receive_all.Goals as goal
 
 pub returns : goal.returns
-returns c = refl
+returns c = receive_all_bit c.args.control

@@ -8,8 +8,8 @@ returns-then-not-length_allowed c = search length_4
 pub returns-then-not-check_right : goal.returns-then-not-check_right
 returns-then-not-check_right c = search check_5
 
-pub returns-then-number-eq0 : goal.returns-then-number-eq0
-returns-then-number-eq0 c = search address_6
+pub returns-then-is_none : goal.returns-then-is_none
+returns-then-is_none c = search address_6
 
 pub returns : goal.returns
 returns c = search none_met_0

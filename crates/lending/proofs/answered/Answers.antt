@@ -5,5 +5,4 @@ use Rattle.lending.proofs.answered.Goals as goal
 pub returns : goal.returns
 returns c =
     let e = c.args in
-    let h = c.numbered-end in
-    answered_is e.console _ _ _ _ _ _ _ c.next.ensures h.ensures
+    answered_is e.console _ _ _ _ _ _ _ c.next.ensures (rw c.from.ensures at c.numbered-end.ensures)

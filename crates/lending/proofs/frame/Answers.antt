@@ -13,7 +13,6 @@ slice_bounds-receive-end-2 c = search (rules, within_long)
 
 pub returns : goal.returns
 returns c =
-    let o = c.blank-bytes in
     let k = c.decode-n in
     let n = c.within-k in
     let p = c.part in
@@ -21,4 +20,4 @@ returns c =
     let seen = within_seen _ _ _ _ refl n.ensures in
     let kept = within_kept _ _ _ _ refl n.ensures in
     frame_made _ _ _ _ _ _ n.result seen kept
-    _ _ _ _ _ _ _ o.ensures k.ensures p.ensures c.receive-a.ensures a.ensures.0 a.ensures.1
+    _ _ _ _ _ _ _ refl k.ensures p.ensures c.receive-a.ensures a.ensures.0 a.ensures.1

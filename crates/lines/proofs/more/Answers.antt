@@ -2,8 +2,8 @@
 use Rattle.lines.proofs.Laws.{more_ended, more_over, more_refilled}
 use Rattle.lines.proofs.more.Goals as goal
 
-pub returns-then-input : goal.returns-then-input
-returns-then-input g c = search more_ended
+pub returns-then-is_some : goal.returns-then-is_some
+returns-then-is_some g c = search more_ended
 
 pub returns-then-to-eq0 : goal.returns-then-to-eq0
 returns-then-to-eq0 g c = search more_over

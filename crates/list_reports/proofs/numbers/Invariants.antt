@@ -6,9 +6,9 @@ use Rattle.text.specs.Text.{put}
 use Rattle.fields.specs.Fields.{each, number}
 use Rattle.list_reports.proofs.numbers.Given as goal
 
-abbrev pub invariant-loop-i : goal.invariant-loop-i
-invariant-loop-i l =
-    (put l.text l.end (each number (drop l.i l.s)) ≡ put l.initial.text l.initial.end (each number l.s)) × ((l.i ≤ length l.s) × ((length l.text ≡ length l.initial.text) × (l.end ≤ length l.text)))
+abbrev pub invariant-loop-n : goal.invariant-loop-n
+invariant-loop-n l =
+    (put l.text l.end (each number (drop l.n-index l.s)) ≡ put l.initial.text l.initial.end (each number l.s)) × ((l.n-index ≤ length l.s) × ((length l.text ≡ length l.initial.text) × (l.end ≤ length l.text)))
 
-abbrev pub decreases-loop-i : goal.decreases-loop-i
-decreases-loop-i l = length l.s - l.i
+abbrev pub decreases-loop-n : goal.decreases-loop-n
+decreases-loop-n l = length l.s - l.n-index

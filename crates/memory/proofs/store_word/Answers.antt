@@ -1,9 +1,10 @@
-use Rattle.memory.proofs.Laws.{word_stored, store_out}
+use mathlib.Core.Path.{◌∙◌}
+use native.Mathlib.Omega.{arith}
+use Rattle.memory.proofs.Laws.{word_stored, word_moved}
 use Rattle.memory.proofs.store_word.Goals as goal
 
-pub returns-then-m-at : goal.returns-then-m-at
-returns-then-m-at c = search store_out
+pub returns-then-saturating_sub-lt4 : goal.returns-then-saturating_sub-lt4
+returns-then-saturating_sub-lt4 c = word_stored _ _ _ _ _ c.to_le_bytes.ensures c.store.ensures
 
-pub returns : goal.returns
-returns c =
-    word_stored _ _ _ _ _ _ _ c.store_byte.ensures c.store_byte-2.ensures c.store_byte-3.ensures c.store_byte-4.ensures
+pub returns-else-saturating_sub-lt4 : goal.returns-else-saturating_sub-lt4
+returns-else-saturating_sub-lt4 c = word_moved _ _ _ _ (omega arith) (c.copy_from_slice.ensures.after ∙ c.to_le_bytes-else-saturating_sub-lt4.ensures)

@@ -1,11 +1,11 @@
 use Rattle.outcomes.proofs.Laws.{rx_refused_ways}
 use Rattle.outcomes.proofs.rx_refused.Goals as goal
 
-pub returns-then-number-eq-CHAIN_FAULT : goal.returns-then-number-eq-CHAIN_FAULT
-returns-then-number-eq-CHAIN_FAULT c = search rx_refused_ways
+pub returns-in-7 : goal.returns-in-7
+returns-in-7 c = search rx_refused_ways
 
-pub returns-then-number-eq-NOT_GRANTED : goal.returns-then-number-eq-NOT_GRANTED
-returns-then-number-eq-NOT_GRANTED c = search rx_refused_ways
+pub returns-in-8 : goal.returns-in-8
+returns-in-8 c = search rx_refused_ways
 
-pub returns : goal.returns
-returns c = search rx_refused_ways
+pub returns-in_default : goal.returns-in_default
+returns-in_default c = search rx_refused_ways

@@ -4,5 +4,5 @@ use Rattle.outcomes.proofs.tx_advanced.Goals as goal
 pub returns-then-linked : goal.returns-then-linked
 returns-then-linked c = search tx_moves
 
-pub returns : goal.returns
-returns c = search tx_ends
+pub returns-else-linked : goal.returns-else-linked
+returns-else-linked c = search tx_ends

@@ -2,6 +2,7 @@
 use borrow.Author.Rules.{rules}
 use mathlib.Core.Path.{refl}
 use Rattle.commands.proofs.Laws.{within_fits, within_long, within_seen, within_kept}
+use Rattle.commands.specs.Commands.{zeros}
 use Rattle.outgoing.proofs.Laws.{run_made}
 use Rattle.outgoing.proofs.run.Goals as goal
 
@@ -15,9 +16,9 @@ pub slice_bounds-run-end-2 : goal.slice_bounds-run-end-2
 slice_bounds-run-end-2 c = search (rules, within_long)
 
 pub returns : goal.returns
+unfolding zeros
 returns c =
     let e = c.args in
-    let a = c.largest-all in
     let k = c.within-k in
     let n = c.within-n in
     let s = c.run-r in
@@ -25,6 +26,6 @@ returns c =
     let h = c.ran-end in
     let seen = within_seen _ _ _ _ refl n.ensures in
     let kept = within_kept _ _ _ _ refl n.ensures in
-    let cut = within_seen a.result _ _ _ a.ensures.1 k.ensures in
-    run_made _ _ _ a.result _ _ _ _ _ _ n.result k.result e.room _ seen kept
-    a.ensures.0 cut _ _ s.ensures p.ensures h.ensures c.next.ensures
+    let cut = within_seen _ _ _ _ refl k.ensures in
+    run_made _ _ _ _ _ _ _ _ _ _ n.result k.result e.room _ seen kept
+    refl cut _ _ s.ensures p.ensures h.ensures c.next.ensures

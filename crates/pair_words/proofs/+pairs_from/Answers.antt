@@ -4,14 +4,14 @@ use Rattle.pair_words.proofs.+pairs_from.Goals as goal
 pub returns-then-left-eq0 : goal.returns-then-left-eq0
 returns-then-left-eq0 t c = search pairs_none
 
-pub returns-then-not-right : goal.returns-then-not-right
-returns-then-not-right t c = search pairs_start
+pub returns-in_err-first_number : goal.returns-in_err-first_number
+returns-in_err-first_number t c = search (pairs_start, c.in_err-first_number.was)
 
-pub returns-then-not-right-2 : goal.returns-then-not-right-2
-returns-then-not-right-2 t c = search pairs_length
+pub returns-in_err-first_number-2 : goal.returns-in_err-first_number-2
+returns-in_err-first_number-2 t c = search (pairs_length, c.in_ok-first_number.was, c.in_err-first_number-2.was)
 
 pub returns-then-not-spaced : goal.returns-then-not-spaced
-returns-then-not-spaced t c = search pairs_last
+returns-then-not-spaced t c = search (pairs_last, c.in_ok-first_number.was, c.in_ok-first_number-2.was)
 
 pub returns : goal.returns
-returns t c = search pairs_more
+returns t c = search (pairs_more, c.in_ok-first_number.was, c.in_ok-first_number-2.was)

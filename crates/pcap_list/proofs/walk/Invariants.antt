@@ -1,11 +1,5 @@
--- `pcap_list::walk` meets its contract. Assumes nothing.
-use Prim.Native.Nat.{◌-◌}
-use lib.ListN.{length}
 use Rattle.pcap_list.proofs.Laws.{Walking}
 use Rattle.pcap_list.proofs.walk.Given as goal
 
-abbrev pub invariant-loop-n : goal.invariant-loop-n
-invariant-loop-n l = Walking l.list l.place l.frames l.n
-
-abbrev pub decreases-loop-n : goal.decreases-loop-n
-decreases-loop-n l = length l.list - l.place
+abbrev pub invariant-loop-entry : goal.invariant-loop-entry
+invariant-loop-entry l = Walking l.list l.place l.frames l.entry-iterator.left.now

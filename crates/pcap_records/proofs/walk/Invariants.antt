@@ -1,11 +1,10 @@
--- `pcap_records::walk` meets its contract. Assumes nothing.
 use Prim.Native.Nat.{◌-◌}
 use lib.ListN.{length}
 use Rattle.pcap_records.proofs.Walks.{Walking}
 use Rattle.pcap_records.proofs.walk.Given as goal
 
-abbrev pub invariant-loop-found : goal.invariant-loop-found
-invariant-loop-found l = Walking l.records l.place l.frames l.storable l.found
+abbrev pub invariant-loop-n : goal.invariant-loop-n
+invariant-loop-n l = Walking l.records l.place l.frames l.storable
 
-abbrev pub decreases-loop-found : goal.decreases-loop-found
-decreases-loop-found l = length l.records - l.place
+abbrev pub decreases-loop-n : goal.decreases-loop-n
+decreases-loop-n l = length l.records - l.place

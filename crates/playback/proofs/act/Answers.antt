@@ -1,5 +1,5 @@
 -- `playback::act` meets its contract. Assumes nothing.
-use Rattle.playback.proofs.Laws.{act_write, act_grant, act_frame, act_send, act_cut, act_no_event}
+use Rattle.playback.proofs.Laws.{act_write, act_grant, act_frame, act_send}
 use Rattle.playback.proofs.act.Goals as goal
 
 pub returns-in-RegisterWrite : goal.returns-in-RegisterWrite
@@ -13,9 +13,3 @@ returns-in-Frame c = search act_frame
 
 pub returns-in-Send : goal.returns-in-Send
 returns-in-Send c = search act_send
-
-pub returns-in-Cut : goal.returns-in-Cut
-returns-in-Cut c = search act_cut
-
-pub returns-in-NoEvent : goal.returns-in-NoEvent
-returns-in-NoEvent c = search act_no_event

@@ -2,8 +2,8 @@
 use Rattle.script.proofs.SilentLaws.{silent_empty, silent_first}
 use Rattle.script.proofs.silent.Goals as goal
 
-pub returns-then-line-eq0 : goal.returns-then-line-eq0
-returns-then-line-eq0 c = silent_empty _ c.if-line-eq0.true
+pub returns-then-is_empty : goal.returns-then-is_empty
+returns-then-is_empty c = search silent_empty
 
-pub returns : goal.returns
-returns c = silent_first _ c.if-line-eq0.false
+pub returns-else-is_empty : goal.returns-else-is_empty
+returns-else-is_empty c = search silent_first

@@ -1,8 +1,5 @@
-use Rattle.stream.proofs.Laws.{count_none, count_some}
+use Rattle.stream.proofs.Laws.{count_is}
 use Rattle.stream.proofs.block_count.Goals as goal
 
-pub returns-then-bytes-eq0 : goal.returns-then-bytes-eq0
-returns-then-bytes-eq0 c = search count_none
-
 pub returns : goal.returns
-returns c = search count_some
+returns c = rw (c.max.ensures, c.div_ceil.ensures) (count_is c.args.bytes)

@@ -1,5 +1,5 @@
 use native.Mathlib.Omega.{arith}
-use Rattle.stream.proofs.Laws.{copying_fits, copying_begins, copying_on, copying_ends, copying_length}
+use Rattle.stream.proofs.Laws.{copying_fits, copying_begins, copying_on, copying_ends}
 use Rattle.stream.proofs.copy.Goals as goal
 
 pub loop-k-init : goal.loop-k-init
@@ -12,9 +12,6 @@ overflow_add-bytes c =
 
 pub loop-k-preserved : goal.loop-k-preserved
 loop-k-preserved c = search copying_on
-
-pub shape_of-room : goal.shape_of-room
-shape_of-room c = search copying_length
 
 pub returns : goal.returns
 returns c = search copying_ends

@@ -2,4 +2,4 @@ use Rattle.trace_trial.proofs.Laws.{replay_left}
 use Rattle.trace_trial.proofs.trace_trial_replay.Goals as goal
 
 pub returns : goal.returns
-returns c = replay_left _ _ _ _ _ _ _ _ _ _ _ _ _ c.replay-r.ensures c.numbers_of.ensures c.put.ensures
+returns c = replay_left _ _ _ _ _ _ _ _ _ _ _ _ _ c.replay-replayed.ensures c.replayed_numbers.ensures c.put.ensures

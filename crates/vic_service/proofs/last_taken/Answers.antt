@@ -1,19 +1,11 @@
--- `vic_service::last_taken` meets its contract: the ranks that the loop has passed are not in service. Assumes nothing.
-use mathlib.Core.Bool.{false}
-use native.Mathlib.Omega.{arith}
-use native.Mathlib.Nat.{zero-add}
-use borrow.Author.Rules.{rules}
-use Rattle.first_where.proofs.Laws.{found_here, found_later, found_nowhere}
+use Rattle.std.proofs.Common.{◌∙◌, rules}
+use Rattle.std.proofs.lemmas.Iterator.{YieldsList-from_slice}
+use Rattle.std.proofs.lemmas.Iterator.Search.{position_from_yields_List}
+use Rattle.first_where.proofs.Laws.{found}
 use Rattle.vic_service.proofs.last_taken.Goals as goal
 
-pub loop-rank-init : goal.loop-rank-init
-loop-rank-init c = (omega arith, zero-add _)
-
-pub returns-then-service-rank : goal.returns-then-service-rank
-returns-then-service-rank c = found_here (λ b. b) _ _ false (search rules) c.if-service-rank.true c.loop-rank.invariant.1
-
-pub loop-rank-preserved : goal.loop-rank-preserved
-loop-rank-preserved c = (omega arith, found_later (λ b. b) _ _ false (search rules) c.if-service-rank.false c.loop-rank.invariant.1)
-
 pub returns : goal.returns
-returns c = found_nowhere (λ b. b) _ _ (search rules) c.loop-rank.invariant.1
+returns c =
+    let s = c.args.service.now in
+    let p = position_from_yields_List (λ b. b) _ _ _ c.position.ensures.ran (YieldsList-from_slice s cc) (λ x b q k. search rules) in
+    c.unwrap_or.ensures ∙ found (λ b. b) s c.position.result p

@@ -2,8 +2,8 @@
 use Rattle.words.proofs.Laws.{rest_none, rest_is}
 use Rattle.words.proofs.rest.Goals as goal
 
-pub returns-then-n-s : goal.returns-then-n-s
-returns-then-n-s c = search rest_none
+pub returns-in-Some : goal.returns-in-Some
+returns-in-Some c = search rest_is
 
-pub returns : goal.returns
-returns c = search rest_is
+pub returns-in-None : goal.returns-in-None
+returns-in-None c = search rest_none

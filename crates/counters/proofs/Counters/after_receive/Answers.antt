@@ -1,11 +1,8 @@
-use Rattle.counters.proofs.Laws.{receive_delivers, receive_loses, receive_neither}
+use Rattle.counters.proofs.Laws.{receive_delivers, receive_loses}
 use Rattle.counters.proofs.Counters.after_receive.Goals as goal
 
-pub returns-then-number-eq-DONE : goal.returns-then-number-eq-DONE
-returns-then-number-eq-DONE c = search receive_delivers
+pub returns-in-0 : goal.returns-in-0
+returns-in-0 c = search receive_delivers
 
-pub returns-then-number-eq-NOT_GRANTED : goal.returns-then-number-eq-NOT_GRANTED
-returns-then-number-eq-NOT_GRANTED c = search receive_loses
-
-pub returns : goal.returns
-returns c = search receive_neither
+pub returns-in-8 : goal.returns-in-8
+returns-in-8 c = search receive_loses

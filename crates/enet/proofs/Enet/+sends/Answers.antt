@@ -1,14 +1,8 @@
 -- The recursion `sends`: the measure is the number of steps left. Assumes nothing.
 use native.Mathlib.Omega.{arith}
 use borrow.Author.Rules.{rules}
-use Rattle.enet.proofs.RunLaws.{sent_fits, ran_steps, both_fit, run_none, run_stop, run_on_rest}
+use Rattle.enet.proofs.RunLaws.{sent_fits, ran_steps, both_fit, run_on_rest}
 use Rattle.enet.proofs.Enet.+sends.Goals as goal
-
-pub returns-then-left-eq0 : goal.returns-then-left-eq0
-returns-then-left-eq0 t c = run_none _ _ _ _ c.if-left-eq0.true
-
-pub returns-then-s-ne-DONE : goal.returns-then-s-ne-DONE
-returns-then-s-ne-DONE t c = run_stop _ _ _ _ _ _ _ c.if-left-eq0.false c.send-s.ensures c.if-s-ne-DONE.true
 
 pub slice_bounds-sends-count : goal.slice_bounds-sends-count
 slice_bounds-sends-count t c = sent_fits _ _ _ _ _ _ c.send-s.ensures

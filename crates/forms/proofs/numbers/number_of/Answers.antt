@@ -4,23 +4,27 @@ use native.Mathlib.Omega.{arith}
 use mathlib.Core.Path.{sym}
 use Rattle.rules.proofs.Choices.{choices}
 use Rattle.forms.specs.Numbers.{number_of}
-use Rattle.forms.proofs.NumberLaws.{number_more, number_stop, number_end, digit_more, digit_fits, product_fits}
+use Rattle.forms.proofs.NumberLaws.{number_more, number_stop, number_no_digit, number_end, digit_more, digit_fits, product_fits}
+use Rattle.forms.proofs.numbers.number_of.Goals.{then-is_empty-via-then-is_empty, then-is_empty-via-else-is_empty+then-word-gt8}
 use Rattle.forms.proofs.numbers.number_of.Goals as goal
 
-pub returns-then-word-eq0 : goal.returns-then-word-eq0
+pub returns-then-is_empty : goal.returns-then-is_empty
 unfolding number_of
-returns-then-word-eq0 c = search choices
+returns-then-is_empty c =
+    elim c.then-is_empty.branch [
+      | then-is_empty-via-then-is_empty w ↦ search choices
+      | then-is_empty-via-else-is_empty+then-word-gt8 w ↦ search choices
+    ]
 
-pub returns-then-word-gt8 : goal.returns-then-word-gt8
+pub loop-c-init : goal.loop-c-init
 unfolding number_of
-returns-then-word-gt8 c = search choices
+loop-c-init c = (omega arith, sym (search choices))
 
-pub loop-i-init : goal.loop-i-init
-unfolding number_of
-loop-i-init c = (omega arith, (omega arith, sym (search choices)))
+pub returns-in_err-d : goal.returns-in_err-d
+returns-in_err-d c = search (number_no_digit, c.in_err-d.was)
 
 pub returns-then-base-d : goal.returns-then-base-d
-returns-then-base-d c = search number_stop
+returns-then-base-d c = search (number_stop, c.in_ok-d.was)
 
 pub overflow_mul-n : goal.overflow_mul-n
 overflow_mul-n c = record { fits = search product_fits }
@@ -28,8 +32,8 @@ overflow_mul-n c = record { fits = search product_fits }
 pub overflow_add-n : goal.overflow_add-n
 overflow_add-n c = record { fits = search digit_fits }
 
-pub loop-i-preserved : goal.loop-i-preserved
-loop-i-preserved c = (omega arith, (search digit_more, search number_more))
+pub loop-c-preserved : goal.loop-c-preserved
+loop-c-preserved c = (search digit_more, search (number_more, c.in_ok-d.was))
 
 pub returns : goal.returns
 returns c = search number_end

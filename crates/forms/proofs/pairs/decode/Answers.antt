@@ -5,10 +5,10 @@ use Rattle.forms.proofs.PairLaws.{pairs_more, pairs_end}
 use Rattle.forms.proofs.pairs.decode.Goals as goal
 
 pub loop-n-init : goal.loop-n-init
-loop-n-init c = (omega arith, (refl, refl))
+loop-n-init c = (refl, refl)
 
 pub loop-n-preserved : goal.loop-n-preserved
-loop-n-preserved c = (omega arith, (omega arith, search pairs_more))
+loop-n-preserved c = (omega arith, search pairs_more)
 
 pub returns : goal.returns
 returns c = search pairs_end

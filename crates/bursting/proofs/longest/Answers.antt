@@ -1,7 +1,0 @@
--- `bursting::longest` meets its contract. Assumes nothing.
-use borrow.Author.Rules.{rules}
-use mathlib.Core.Path.{refl}
-use Rattle.bursting.proofs.longest.Goals as goal
-
-pub returns : goal.returns
-returns c = (refl, search rules)

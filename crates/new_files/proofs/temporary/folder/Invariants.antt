@@ -1,9 +1,0 @@
--- The loop goes back from the name's end. Assumes nothing.
-use Rattle.std.proofs.Common.{◌≤◌, length}
-use Rattle.new_files.proofs.temporary.folder.Given as goal
-
-abbrev pub invariant-loop-n : goal.invariant-loop-n
-invariant-loop-n l = l.n ≤ length l.path
-
-abbrev pub decreases-loop-n : goal.decreases-loop-n
-decreases-loop-n l = l.n

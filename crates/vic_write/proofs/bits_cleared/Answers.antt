@@ -1,4 +1,0 @@
-use Rattle.vic_write.proofs.bits_cleared.Goals as goal
-
-pub returns : goal.returns
-returns c = rw c.low_half.ensures
