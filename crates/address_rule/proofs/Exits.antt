@@ -9,7 +9,6 @@ use lib.Dec.{eqb, ltb}
 use lib.ListN.{length, get_or}
 use Rattle.std.specs.Prelude.{if◌then◌else◌, Option, Some, None}
 use Rattle.std.specs.Bool.{then_some}
-use Rattle.std.specs.List.{starts_with}
 use Rattle.rules.proofs.Choices.{if_yes, if_no, said}
 use Rattle.fcs.specs.Bytes.{same}
 use Rattle.hash.specs.Hash.{hash_accepts}
@@ -19,7 +18,6 @@ use Rattle.reason.specs.Reason.{reason_number}
 use Rattle.filter.specs.declared.Filter.{Filter}
 use Rattle.filter.specs.Meaning.{receive_all, filter_mode, station_address}
 use Rattle.address_rule.specs.AddressRule.{destination, broadcast, group_rule, first_met, address_rule}
-use Rattle.address_rule.proofs.Comparison.{begins}
 
 -- a test that takes a frame for a reason
 taken_if : (b : Bool) (reason : Reason) → then_some b reason ≡ (if b then Some reason else None)
@@ -70,17 +68,14 @@ module _ (filter : Filter) (f : List ℕ) where
         (if_no _ (Some ReceiveAll) _ _ (le-ltb (length f) 6 long) (
         if_yes _ (Some ReceiveAll) _ _ (said (receive_all filter.mcr) all true a ya) refl))
 
-    module _ (every : Bool) (na : all ≡ false) (b : every ≡ starts_with eqb f broadcast) where
-      equal : every ≡ same (destination f) broadcast
-      equal = b ∙ begins f broadcast refl
-
+    module _ (every : Bool) (na : all ≡ false) (b : every ≡ same (destination f) broadcast) where
       pub by_broadcast : every ≡ true → 2 ≡ address_rule filter f
       unfolding first_met
       by_broadcast yb =
           ap reason_number
           (if_no _ (Some Broadcast) _ _ (le-ltb (length f) 6 long) (
           if_no _ (Some Broadcast) _ _ (said (receive_all filter.mcr) all false a na) (
-          if_yes _ (Some Broadcast) _ _ (said (same (destination f) broadcast) every true equal yb) refl)))
+          if_yes _ (Some Broadcast) _ _ (said (same (destination f) broadcast) every true b yb) refl)))
 
       -- past the broadcast: a group, or one station
       module _ (nb : every ≡ false) where
@@ -91,7 +86,7 @@ module _ (filter : Filter) (f : List ℕ) where
         not_all = said (receive_all filter.mcr) all false a na
 
         no_broadcast : same (destination f) broadcast ≡ false
-        no_broadcast = said (same (destination f) broadcast) every false equal nb
+        no_broadcast = said (same (destination f) broadcast) every false b nb
 
         pub by_group : (n : ℕ) → get_or f 0 0 % 2 ≡ 1 → n ≡ reason_number (group_rule filter (destination f)) → n ≡ address_rule filter f
         unfolding first_met
@@ -102,12 +97,12 @@ module _ (filter : Filter) (f : List ℕ) where
             if_yes _ (group_rule filter (destination f)) _ _ (eq-eqb (get_or f 0 0 % 2) 1 g) refl))
 
         pub by_station : (get_or f 0 0 % 2 ≡ 1 → ⊥) → (station : List ℕ) → station ≡ station_address filter.mah filter.mal
-            → (r : Bool) → r ≡ starts_with eqb f station → (answer : Option Reason) → answer ≡ then_some r Own
+            → (r : Bool) → r ≡ same (destination f) station → (answer : Option Reason) → answer ≡ then_some r Own
             → reason_number answer ≡ address_rule filter f
         unfolding first_met
         by_station g station s r e answer t =
             let address = station_address filter.mah filter.mal in
-            let found : r ≡ same (destination f) address = e ∙ ap (starts_with eqb f) s ∙ begins f address refl in
+            let found : r ≡ same (destination f) address = e ∙ ap (same (destination f)) s in
             ap reason_number
             (past _ _ _ answer _ _ _ _ long_enough not_all no_broadcast (
             if_no _ answer _ _ (ne_eqb (get_or f 0 0 % 2) 1 g) (

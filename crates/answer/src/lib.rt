@@ -4,83 +4,83 @@
 ghost use Rattle.std.specs.Prelude.{◌≡◌};
 ghost use Rattle.answer.specs.Refusals.{refusal_number, number_of};
 
-// Why a call is refused, with the number that says so.
+// Why a call is refused, with the number that says so: each case has that of its constant below.
 #[derive(Clone, Copy, Debug, PartialEq, Eq)]
 pub enum Refusal {
     // Window not allowed.
-    WindowNotAllowed = 1,
+    WindowNotAllowed = WINDOW_NOT_ALLOWED as isize,
     // Register not modelled.
-    RegisterNotModelled = 2,
+    RegisterNotModelled = REGISTER_NOT_MODELLED as isize,
     // That engine is not running.
-    NotRunning = 3,
+    NotRunning = NOT_RUNNING as isize,
     // Frame under 64 or over 1,518 bytes.
-    FrameLength = 4,
+    FrameLength = FRAME_LENGTH as isize,
     // Frame check sequence wrong.
-    FrameCheck = 5,
+    FrameCheck = FRAME_CHECK as isize,
     // Address not for this station.
-    Address = 6,
+    Address = ADDRESS as isize,
     // Chain fault.
-    ChainFault = 7,
+    ChainFault = CHAIN_FAULT as isize,
     // Descriptor not granted.
-    NotGranted = 8,
+    NotGranted = NOT_GRANTED as isize,
     // Output shorter than 1,518 bytes.
-    OutputShort = 9,
+    OutputShort = OUTPUT_SHORT as isize,
     // Step allowance over 4,096.
-    Allowance = 10,
+    Allowance = ALLOWANCE as isize,
     // Lent memory not of the window's length.
-    LentLength = 11,
+    LentLength = LENT_LENGTH as isize,
     // Send length under 14 or over 1,514.
-    SendLength = 12,
+    SendLength = SEND_LENGTH as isize,
     // Descriptor not at a multiple of 4 or not all in the window, or, for reading only, no frame to show.
-    NoDescriptor = 13,
+    NoDescriptor = NO_DESCRIPTOR as isize,
     // Descriptor already granted.
-    AlreadyGranted = 14,
+    AlreadyGranted = ALREADY_GRANTED as isize,
     // Next-descriptor register written while its engine runs.
-    EngineRuns = 15,
+    EngineRuns = ENGINE_RUNS as isize,
     // Of one pair: it passes the store's end. Of a whole burst: more than 64 pairs, or lists of different lengths.
-    Burst = 16,
+    Burst = BURST as isize,
     // Of a trace that is read: the length of a block.
-    BlockLength = 17,
+    BlockLength = BLOCK_LENGTH as isize,
     // The number of a block.
-    BlockNumber = 18,
+    BlockNumber = BLOCK_NUMBER as isize,
     // The check of a block.
-    BlockCheck = 19,
+    BlockCheck = BLOCK_CHECK as isize,
     // The used length of a block.
-    UsedLength = 20,
+    UsedLength = USED_LENGTH as isize,
     // A byte of a block behind the used ones that is not zero.
-    ZeroFill = 21,
+    ZeroFill = ZERO_FILL as isize,
     // A byte that no event can have there, an event that is cut, a header that is cut or of a window that is not allowed.
-    Event = 22,
+    Event = EVENT as isize,
     // Too little room for the events.
-    EventRoom = 23,
+    EventRoom = EVENT_ROOM as isize,
     // Of a replay: fewer answers than events.
-    AnswersShort = 24,
+    AnswersShort = ANSWERS_SHORT as isize,
     // Of a trace that is written: the event list is not of its form.
-    EventList = 25,
+    EventList = EVENT_LIST as isize,
     // Base and length are no allowed window.
-    TraceWindow = 26,
+    TraceWindow = TRACE_WINDOW as isize,
     // Over 65,536 blocks.
-    Blocks = 27,
+    Blocks = BLOCKS as isize,
     // Too little room for the blocks.
-    BlockRoom = 28,
+    BlockRoom = BLOCK_ROOM as isize,
     // Of frames that are exported: the list is not of its form.
-    FrameList = 29,
+    FrameList = FRAME_LIST as isize,
     // Too little room for the capture.
-    CaptureRoom = 30,
+    CaptureRoom = CAPTURE_ROOM as isize,
     // Of a capture that is imported: its header is cut.
-    CaptureHeader = 31,
+    CaptureHeader = CAPTURE_HEADER as isize,
     // Another magic.
-    Magic = 32,
+    Magic = MAGIC as isize,
     // Another version.
-    Version = 33,
+    Version = VERSION as isize,
     // Another link type.
-    LinkType = 34,
+    LinkType = LINK_TYPE as isize,
     // A record that is cut.
-    RecordCut = 35,
+    RecordCut = RECORD_CUT as isize,
     // A record whose two lengths are unequal.
-    RecordLengths = 36,
+    RecordLengths = RECORD_LENGTHS as isize,
     // Too little room for the events or the times.
-    ImportRoom = 37,
+    ImportRoom = IMPORT_ROOM as isize,
 }
 
 impl From<Refusal> for u32 {
@@ -101,7 +101,7 @@ pub fn number_of<T>(answer: &Result<T, Refusal>) -> u32
     }
 }
 
-// The same numbers, where an answer is a number.
+// The numbers by name, for the cases above and where an answer is a number.
 pub const DONE: u32 = 0;
 
 pub const WINDOW_NOT_ALLOWED: u32 = 1;

@@ -2,7 +2,7 @@
 #![tactic(auto)]
 
 ghost use Rattle.std.specs.Prelude.{◌≡◌};
-ghost use Rattle.counters.specs.Counters.{reset, with_ticks, after_receive, after_send};
+ghost use Rattle.counters.specs.Counters.{reset, with_ticks, one_more, after_receive, after_send};
 
 // Frames delivered, lost and sent, and the ticks in a row at which a send was stalled.
 #[derive(Clone, Copy)]
@@ -11,6 +11,14 @@ pub struct Counters {
     pub lost: u32,
     pub sent: u32,
     pub ticks: u32,
+}
+
+// One event more; a counter that has reached the stop stays there.
+#[tactic(auto, unfolding(crate::specs::Counters::one_more))]
+fn one_more(n: u32) -> u32
+    ensures { result ≡ one_more n }
+{
+    n.saturating_add(1).min(Counters::STOP)
 }
 
 impl Counters {
@@ -42,8 +50,8 @@ impl Counters {
         ensures { result ≡ after_receive number self }
     {
         match number {
-            answer::DONE => self.delivered = self.delivered.saturating_add(1),
-            answer::NOT_GRANTED => self.lost = self.lost.saturating_add(1),
+            answer::DONE => self.delivered = one_more(self.delivered),
+            answer::NOT_GRANTED => self.lost = one_more(self.lost),
             _ => {}
         }
         self
@@ -54,7 +62,7 @@ impl Counters {
         ensures { result ≡ after_send number self }
     {
         if number == answer::DONE {
-            self.sent = self.sent.saturating_add(1);
+            self.sent = one_more(self.sent);
             self.ticks = 0;
         }
         self

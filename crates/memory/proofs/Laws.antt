@@ -3,9 +3,10 @@ use mathlib.Core.Path.{◌≡◌, refl, sym, ap, ◌∙◌}
 use mathlib.Core.List.{List, [], ◌∷◌, ◌++◌}
 use Prim.Native.Nat.{ℕ, suc, ◌+◌, ◌-◌, ◌/◌, ◌^◌, ◌≤◌, ◌<◌}
 use native.Mathlib.Nat.{add-zero, add-suc, suc-add}
+use native.Mathlib.Numerals.{add-one}
 use native.Mathlib.Omega.{arith}
 use lib.ListN.{length, get_or, take, drop, set, length-take, length-drop, get_or-eq_default}
-use lib.Seq.{sets, sets-eq, length-sets, set_out}
+use lib.Seq.{sets, sets-eq, length-sets, drop-cons, set_out}
 use Rattle.std.specs.Prelude.{min}
 use Rattle.std.proofs.Common.{take-append-drop}
 use Rattle.std.proofs.lemmas.List.{append_assoc}
@@ -22,6 +23,17 @@ sets_out (x ∷ s) m at h = rw (set_out m at x h) (sets_out s m (suc at) (omega 
 sets_none : (s m : List ℕ) (at : ℕ) → (0 < length s → length m ≤ at) → sets m at s ≡ m
 sets_none [] m at h = refl
 sets_none (x ∷ s) m at h = sets_out (x ∷ s) m at (h (omega arith))
+
+-- a turn of the loop that stores s from an offset on
+pub sets_turn : (m s : List ℕ) (at i : ℕ) → i < length s
+    → sets (set m (at + i) (get_or s i 0)) (at + (i + 1)) (drop (i + 1) s) ≡ sets m (at + i) (drop i s)
+sets_turn m s at i h = simp (add-one, add-suc, drop-cons s i 0 h)
+
+-- what that loop leaves: no byte is left, or none has room, and the bytes of s stand from the offset on
+pub all_stored : (m o s : List ℕ) (at i n : ℕ) → length o ≡ length m → n ≤ i → n ≡ min (length s) (length m - at)
+    → sets o (at + i) (drop i s) ≡ sets m at s → o ≡ store m at s
+unfolding store
+all_stored m o s at i n l h w e = sym (sets_none (drop i s) o (at + i) (λ k. omega (arith, length-drop i s))) ∙ e
 
 pub sets_append : (a b m : List ℕ) (at : ℕ) → sets (sets m at a) (at + length a) b ≡ sets m at (a ++ b)
 sets_append [] b m at = rw add-zero
@@ -75,8 +87,12 @@ word_bytes_is v =
     let three : v / 256 ^ 3 ≡ v / 256 / 256 / 256 = omega arith in
     rw (two, three)
 
-pub word_stored : (m o b : List ℕ) (at v : ℕ) → b ≡ to_le_bytes w32 v → o ≡ store m at b → o ≡ store_word m at v
-word_stored m o b at v e h = h ∙ ap (λ (l : List ℕ). store m at l) (e ∙ word_bytes_is v)
+-- one by one
+pub word_stored : (m o b : List ℕ) (at v i : ℕ) → b ≡ to_le_bytes w32 v → 4 ≤ i → sets o (at + i) (drop i b) ≡ sets m at b → o ≡ store_word m at v
+unfolding store
+word_stored m o b at v i e h s =
+    let none : sets o (at + i) (drop i b) ≡ o = sets_none (drop i b) o (at + i) (λ k. omega (arith, length-drop i b, ap length e)) in
+    sym none ∙ s ∙ ap (λ (l : List ℕ). sets m at l) (e ∙ word_bytes_is v)
 
 -- the four at once
 pub word_moved : (m p : List ℕ) (at v : ℕ) → at + 4 ≤ length m → p ≡ to_le_bytes w32 v → put_mid at (at + 4 - at) m p ≡ store_word m at v

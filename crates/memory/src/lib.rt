@@ -2,7 +2,7 @@
 // reads 0, and a store past the end does nothing.
 #![tactic(auto)]
 
-ghost use Rattle.std.specs.Prelude.{◌≡◌, get_or, take, drop};
+ghost use Rattle.std.specs.Prelude.{◌≡◌, get_or, set, take, drop};
 ghost use Rattle.memory.specs.Memory.{word, store_word, store};
 
 // The byte at an offset.
@@ -27,18 +27,34 @@ pub fn word(m: &[u8], at: usize) -> u32
     ])
 }
 
+// Stores a byte at an offset.
+fn store_byte(m: &mut [u8], at: usize, b: u8)
+    ensures { m.new ≡ set m.old at b }
+{
+    if at < m.len() {
+        m[at] = b;
+    }
+}
+
 // Stores a word at an offset. Where all four bytes have room they are one move.
 pub fn store_word(m: &mut [u8], at: usize, v: u32)
     ensures { m.new ≡ store_word m.old at v }
 {
-    if m.len().saturating_sub(at) < 4 {
-        store(m, at, &v.to_le_bytes());
+    if m.len() <= at {
+        return;
+    }
+    let bytes = v.to_le_bytes();
+    if m.len() - at < 4 {
+        for i in 0..4 {
+            store_byte(m, at + i, bytes[i]);
+        }
     } else {
-        m[at..at + 4].copy_from_slice(&v.to_le_bytes());
+        m[at..at + 4].copy_from_slice(&bytes);
     }
 }
 
-// Stores the bytes of s from an offset on. How many have room is settled first, so that they move as one run.
+// Stores the bytes of s from an offset on. How many have room is settled before the loop: a test at each byte would keep the
+// compiler from moving several at once. `copy_from_slice` of so many bytes would be a call of `memmove`.
 pub fn store(m: &mut [u8], at: usize, s: &[u8])
     ensures { m.new ≡ store m.old at s.now }
 {
@@ -46,7 +62,9 @@ pub fn store(m: &mut [u8], at: usize, s: &[u8])
         return;
     }
     let n = s.len().min(m.len() - at);
-    m[at..at + n].copy_from_slice(&s[..n]);
+    for i in 0..n {
+        m[at + i] = s[i];
+    }
 }
 
 // The n bytes from an offset on, or as many of them as there are.

@@ -28,7 +28,9 @@ impl Name {
 }
 
 // The length of a name's folder, with the slash behind it.
-fn folder(path: &[u8]) -> usize {
+fn folder(path: &[u8]) -> usize
+    ensures { result ≤ length path.now }
+{
     match path.iter().rposition(|c| *c == b'/') {
         Some(i) => i + 1,
         None => 0,

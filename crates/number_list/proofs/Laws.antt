@@ -1,15 +1,13 @@
--- Numbers moved to a list's front. Assumes nothing.
-use Prim.Native.Nat.{ℕ, ◌+◌, ◌-◌}
-use mathlib.Core.Path.{◌≡◌}
-use mathlib.Core.List.{List, ◌++◌}
-use native.Mathlib.Omega.{arith}
-use lib.ListN.{length, take, drop}
-use Rattle.std.specs.Prelude.{min}
-use Rattle.memory.specs.Memory.{store}
-use Rattle.memory.proofs.Laws.{moved}
+-- A turn of the loop that puts numbers at a list's front. Assumes nothing.
+use Prim.Native.Nat.{ℕ, ◌+◌, ◌<◌}
+use mathlib.Core.Path.{◌≡◌, sym, ap, ◌∙◌}
+use mathlib.Core.List.{List}
+use native.Mathlib.Nat.{zero-add}
+use lib.ListN.{length, get_or, drop, set}
+use lib.Seq.{sets}
+use Rattle.memory.proofs.Laws.{sets_turn}
 
-pub moved_front : (m s p : List ℕ) (n : ℕ) → n ≡ min (length s) (length m) → p ≡ take n s → p ++ drop n m ≡ store m 0 s
-moved_front m s p n e i =
-    let k : 0 + n - 0 ≡ n = omega arith in
-    let h = moved m s p 0 n (omega arith) (omega arith) i in
-    rw k at h
+pub front_turn : (m s : List ℕ) (i : ℕ) → i < length s → sets (set m i (get_or s i 0)) (0 + (i + 1)) (drop (i + 1) s) ≡ sets m (0 + i) (drop i s)
+front_turn m s i h =
+    let z : set m (0 + i) (get_or s i 0) ≡ set m i (get_or s i 0) = rw (zero-add i) in
+    ap (λ (l : List ℕ). sets l (0 + (i + 1)) (drop (i + 1) s)) (sym z) ∙ sets_turn m s 0 i h

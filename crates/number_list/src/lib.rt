@@ -8,5 +8,7 @@ pub fn put(list: &mut [u64], numbers: &[u64])
     ensures { list.new ≡ store list.old 0 numbers.now }
 {
     let n = numbers.len().min(list.len());
-    list[..n].copy_from_slice(&numbers[..n]);
+    for i in 0..n {
+        list[i] = numbers[i];
+    }
 }

@@ -5,12 +5,10 @@ use mathlib.Core.List.{List, ◌++◌}
 use Prim.Native.Nat.{ℕ, ◌+◌, ◌-◌, ◌≤◌}
 use native.Mathlib.Omega.{arith}
 use borrow.Author.Tests.{leb-true, le-leb}
-use borrow.Rule.Slice.PartMut.{put_mid, Post-is}
 use lib.Dec.{leb}
-use lib.ListN.{length, take, drop, replicate, length-append, length-replicate, length-take, length-drop}
+use lib.ListN.{length, take, drop, replicate, length-append, length-replicate}
 use lib.Seq.{sets-eq}
-use Rattle.std.specs.Prelude.{max}
-use Rattle.std.proofs.lemmas.List.{append_assoc}
+use Rattle.std.proofs.lemmas.List.{take-replicate}
 use Rattle.rules.proofs.Choices.{said_yes, said_no, and_parts}
 use Rattle.memory.specs.Memory.{store}
 use Rattle.memory.proofs.Stores.{length_store, part_back, store_append}
@@ -65,19 +63,13 @@ close_front s m k e h =
 
 -- ---- the ways out
 
--- zeros written from n to 60, or to n where that is more
-pub padding : (out z : List ℕ) (n k : ℕ) → k ≡ max n 60 → k ≤ length out → z ≡ replicate (length (take (k - n) (drop n out))) 0
-    → put_mid n (k - n) out z ≡ store out n (replicate (60 - n) 0)
-padding out z n k ek h ez =
-    let l : length (take (k - n) (drop n out)) ≡ 60 - n = simp (length-take, length-drop) (omega arith) in
-    let y : z ≡ replicate (60 - n) 0 = ez ∙ ap (λ (i : ℕ). replicate {A = ℕ} i 0) l in
-    let lz : length z ≡ 60 - n = rw y (length-replicate (60 - n) 0) in
-    let e : n + (60 - n) ≡ k = omega arith in
-    rw (Post-is n k out (omega arith)) (
-    sym (append_assoc (take n out) z (drop k out))
-    ∙ ap (λ (i : ℕ). take n out ++ z ++ drop i out) (sym e)
-    ∙ sym (store_eq z out n (60 - n) lz (omega arith))
-    ∙ ap (store out n) y)
+-- so many of sixty zeros stored, and none where there are sixty bytes before them
+pub padding : (out o : List ℕ) (n most : ℕ) → most ≡ 60 → o ≡ store out n (take (60 - n) (replicate most 0)) → o ≡ store out n (replicate (60 - n) 0)
+padding out o n most m e = e ∙ ap (store out n) (take-replicate (60 - n) most 0 (omega arith))
+
+pub no_padding : (out : List ℕ) (n : ℕ) → 60 ≤ n → out ≡ store out n (replicate (60 - n) 0)
+unfolding store
+no_padding out n h = let e : 60 - n ≡ 0 = omega arith in rw e
 
 module _ (out p : List ℕ) (r : Bool) (e : r ≡ wire_fits out p) (h : not r ≡ true) where
   pub none_counted : 0 ≡ wire_count out p
@@ -93,9 +85,6 @@ fits_lengths : (out p : List ℕ) → wire_fits out p ≡ true → (length p ≤
 unfolding wire_fits
 fits_lengths out p h =
     let t = and_parts (leb (length p) 1514) (leb 1518 (length out)) h in (leb-true _ _ t.0, leb-true _ _ t.1)
-
-pub lengths : (out p : List ℕ) (r : Bool) → r ≡ wire_fits out p → not r ≡ false → (length p ≤ 1514) × (1518 ≤ length out)
-lengths out p r e h = fits_lengths out p (said_yes (wire_fits out p) r e h)
 
 pub all_counted : (out p : List ℕ) (r : Bool) (k : ℕ) → r ≡ wire_fits out p → not r ≡ false → k ≡ length p + (60 - length p)
     → k + 4 ≡ wire_count out p

@@ -1,7 +1,8 @@
 // The bytes of a frame out: padding and check sequence, put at the front of an output.
 #![tactic(auto)]
 
-ghost use Rattle.std.specs.Prelude.{◌≡◌};
+ghost use Rattle.std.specs.Prelude.{◌≡◌, ◌-◌, replicate};
+ghost use Rattle.memory.specs.Memory.{store};
 ghost use Rattle.wire.specs.Wire.{send_length_wrong, wire_fits, wire_put, wire_count};
 
 // Under 14 or over 1,514.
@@ -20,6 +21,16 @@ fn wire_fits(out: &[u8], payload: &[u8]) -> bool
     payload.len() <= 1514 && 1518 <= out.len()
 }
 
+// Zeros behind the first n bytes, up to 60. `fill` would be a call of `memset`, as would be a loop of zeros.
+fn pad(out: &mut [u8], n: usize)
+    ensures { out.new ≡ store out.old n (replicate (60 - n) 0) }
+{
+    if n < 60 {
+        let zeros = [0; 60];
+        memory::store(out, n, &zeros[..60 - n]);
+    }
+}
+
 // Puts the payload, its padding and the check sequence at the front of the output. Answers how many
 // bytes that is; where the payload is too long or the output too short nothing is written, and the
 // answer is 0.
@@ -32,7 +43,7 @@ pub fn put_wire(out: &mut [u8], payload: &[u8]) -> usize
     let n = payload.len();
     let k = n.max(60);
     memory::store(out, 0, payload);
-    out[n..k].fill(0);
+    pad(out, n);
     fcs::close(out, k);
     k + 4
 }

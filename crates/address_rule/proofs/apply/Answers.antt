@@ -7,8 +7,8 @@ returns-then-frame-lt6 c = search short_not_taken
 pub returns-then-receive_all : goal.returns-then-receive_all
 returns-then-receive_all c = search by_receive_all
 
-pub returns-then-starts_with : goal.returns-then-starts_with
-returns-then-starts_with c = search by_broadcast
+pub returns-then-same : goal.returns-then-same
+returns-then-same c = search by_broadcast
 
 pub returns-then-frame-eq1 : goal.returns-then-frame-eq1
 returns-then-frame-eq1 c = search by_group

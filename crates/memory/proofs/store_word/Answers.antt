@@ -1,10 +1,13 @@
 use mathlib.Core.Path.{◌∙◌}
 use native.Mathlib.Omega.{arith}
-use Rattle.memory.proofs.Laws.{word_stored, word_moved}
+use Rattle.memory.proofs.Laws.{store_out, word_stored, word_moved}
 use Rattle.memory.proofs.store_word.Goals as goal
 
-pub returns-then-saturating_sub-lt4 : goal.returns-then-saturating_sub-lt4
-returns-then-saturating_sub-lt4 c = word_stored _ _ _ _ _ c.to_le_bytes.ensures c.store.ensures
+pub returns-then-m-at : goal.returns-then-m-at
+returns-then-m-at c = search store_out
 
-pub returns-else-saturating_sub-lt4 : goal.returns-else-saturating_sub-lt4
-returns-else-saturating_sub-lt4 c = word_moved _ _ _ _ (omega arith) (c.copy_from_slice.ensures.after ∙ c.to_le_bytes-else-saturating_sub-lt4.ensures)
+pub returns-after-loop-i : goal.returns-after-loop-i
+returns-after-loop-i c = word_stored _ _ _ _ _ c.loop-i.i c.to_le_bytes-bytes.ensures (omega arith) c.loop-i.invariant.1
+
+pub returns-else-m-at-lt4 : goal.returns-else-m-at-lt4
+returns-else-m-at-lt4 c = word_moved _ _ _ _ (omega arith) (c.copy_from_slice.ensures.after ∙ c.to_le_bytes-bytes.ensures)
